@@ -27,6 +27,7 @@ extern "C" {
     fn stubs_bench_encode(text: *const u8, len: usize, call: *const u8, call_len: usize, second: bool, count: u64) -> u64;
     fn stubs_bench_take(text: *const u8, len: usize, call: *const u8, call_len: usize, second: bool, count: u64) -> u64;
     fn stubs_bench_receive(text: *const u8, len: usize, call: *const u8, call_len: usize, second: bool, count: u64) -> u64;
+    fn stubs_bench_assemble(text: *const u8, len: usize, call: *const u8, call_len: usize, second: bool, count: u64) -> u64;
     fn stubs_bench_read(text: *const u8, len: usize, call: *const u8, call_len: usize, second: bool, count: u64) -> u64;
     fn stubs_bench_pass(text: *const u8, len: usize, call: *const u8, call_len: usize, second: bool, count: u64) -> u64;
     fn stubs_bench_feed(text: *const u8, len: usize, call: *const u8, call_len: usize, second: bool, count: u64) -> u64;
@@ -46,7 +47,7 @@ struct Work {
     others: &'static [(&'static str, Side)],
 }
 
-const WORK: [Work; 5] = [
+const WORK: [Work; 6] = [
     Work {
         name: "a tape to fragments",
         ours: Side::Proved(stubs_bench_give),
@@ -69,6 +70,15 @@ const WORK: [Work; 5] = [
     Work {
         name: "fragments to a call",
         ours: Side::Proved(stubs_bench_receive),
+        others: &[
+            ("plain machine", Side::Plain(receiver::receive)),
+            ("proved reader", Side::Proved(stubs_bench_read)),
+            ("plain reader", Side::Plain(receiver::read)),
+        ],
+    },
+    Work {
+        name: "fragments, at an end",
+        ours: Side::Proved(stubs_bench_assemble),
         others: &[
             ("plain machine", Side::Plain(receiver::receive)),
             ("proved reader", Side::Proved(stubs_bench_read)),
@@ -154,6 +164,30 @@ fn scalars() -> Row {
         frags: 1,
         stub: one_message(types.map(fixed).into(), ints(numbers), send, receive),
     }
+}
+
+// Numbers of 8 bytes, each an argument of its own: a few fragments.
+fn words(name: &'static str, interface: &'static str, count: usize, frags: u64) -> Row {
+    let numbers = || (1..=count as i128).map(|k| k * 0x0012_3456_789a);
+    let send = std::iter::repeat_n(Op::Emit(8), count).chain([Op::End]).collect();
+    let receive = std::iter::repeat_n(TakeOp::Read(8), count).chain([TakeOp::Done]).collect();
+    Row {
+        name,
+        interface,
+        call: format!("m({})", listed(numbers())),
+        frags,
+        stub: one_message((0..count).map(|_| fixed(Scalar::Unsigned(8))).collect(), ints(numbers()), send, receive),
+    }
+}
+
+fn eight_words() -> Row {
+    words("eight uint64", "interface i { message m(uint64 a, uint64 b, uint64 c, uint64 d, uint64 e, uint64 f, uint64 g, uint64 h); }", 8, 2)
+}
+
+fn sixteen_words() -> Row {
+    let interface = "interface i { message m(uint64 a, uint64 b, uint64 c, uint64 d, uint64 e, uint64 f, uint64 g, uint64 h,
+        uint64 i, uint64 j, uint64 k, uint64 l, uint64 m, uint64 n, uint64 o, uint64 p); }";
+    words("sixteen uint64", interface, 16, 3)
 }
 
 fn text() -> Row {
@@ -300,7 +334,7 @@ fn main() {
     println!("the least of {RUNS} stretches, nanoseconds for a call; a ratio above 1 says that stub code is faster");
     // one row by a word of its name, or all
     let word = env::args().nth(1).unwrap_or_default();
-    for row in [scalars(), text(), numbers(), structs()].into_iter().filter(|row| row.name.contains(&word)) {
+    for row in [scalars(), eight_words(), sixteen_words(), text(), numbers(), structs()].into_iter().filter(|row| row.name.contains(&word)) {
         println!("{}", row.name);
         let count = FRAGS / row.frags;
         for work in WORK {

@@ -1,6 +1,6 @@
 //! Handles for C: pointers, each to a block of its own.
 
-ghost use Rattle.std.specs.Prelude.{◌≡◌, ◌≢◌, ◌⊎◌, IfSome};
+ghost use Rattle.std.specs.Prelude.{◌≡◌, ◌≢◌, ◌⊎◌, IfSome, IsSome};
 
 use crate::handle::Handle;
 use std::alloc::Global;
@@ -15,6 +15,7 @@ pub fn boxed(alloc: Global, handle: Handle) -> Option<Box<Handle>>
 /// Hands out a handle; where there was no memory for it (99) the pointer is as it was.
 pub fn hand_one(handle: Option<Box<Handle>>, at: &mut *mut u8) -> u32
     ensures faults { (result ≡ 0) ⊎ (result ≡ 99) }
+    ensures given { IsSome handle → result ≡ 0 }
     ensures kept { result ≢ 0 → at.new ≡ at.old }
 {
     let Some(handle) = handle else {
@@ -32,6 +33,7 @@ pub fn hand_out(
     two: &mut *mut u8,
 ) -> u32
     ensures faults { (result ≡ 0) ⊎ (result ≡ 99) }
+    ensures given { IsSome first → IsSome second → result ≡ 0 }
     ensures kept { result ≢ 0 → (one.new ≡ one.old) × (two.new ≡ two.old) }
 {
     let Some(first) = first else {

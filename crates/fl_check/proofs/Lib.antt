@@ -9,6 +9,7 @@ pub mod Limits
 pub mod Longs
 pub mod NameSets
 pub mod NameMaps
+pub mod Names
 pub mod TextInterfaces
 pub mod TextTrees
 pub mod Looks

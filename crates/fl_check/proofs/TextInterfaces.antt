@@ -1,5 +1,5 @@
 -- What a text's declarations declare: messages whose names are words, and enums of at most 65,535.
-use Rattle.std.proofs.Common.{◌≡◌, ℕ, ◌+◌, ◌≤◌, Bool, true, false, ◌||◌, ◌&&◌, List, [], ◌∷◌, ◌++◌, map, length, length-append, Option, Some, None, option_map, is_some, unwrap_or, nat_le, nat_lt, codes, refl, ap, ◌∙◌, arith, if◌then◌else◌}
+use Rattle.std.proofs.Common.{◌≡◌, ℕ, ◌+◌, ◌≤◌, Bool, true, false, ◌||◌, ◌&&◌, List, [], ◌∷◌, ◌++◌, map, length, Option, Some, None, option_map, is_some, unwrap_or, nat_le, nat_lt, refl, ap, ◌∙◌, if◌then◌else◌}
 use Rattle.std.specs.List.{All, AllByRecursion, list_all}
 use Rattle.std.specs.Str.{bytes_eq}
 use Rattle.std.specs.Cmp.{first_so, second_so}
@@ -13,12 +13,13 @@ use Rattle.fl_interface.specs.Limits.{is_among}
 use Rattle.fl_check.specs.Places.{rule, rpc_name_place, declaration_places, places_from, arguments_of, argument_places, some_too_long, whole_message_place, message_names}
 use Rattle.fl_check.specs.Checks.{IsSound}
 use Rattle.fl_parse.specs.Tree.{TheName, TheNumber, TheField, TheShape, plain, bounded, sized as sized_shape, TheArgument, TheDeclaration, alias_of, typedef_of, enum_of, struct_of, message_of, rpc_of}
-use Rattle.fl_lex.specs.Words.{is_letter, is_word_byte, is_word, is_name}
+use Rattle.fl_lex.specs.Words.{is_name}
 use Rattle.fl_lex.proofs.Classes.{both}
 use Rattle.fl_check.specs.Texts.{has_short_enums, have_short_enums, argument_has_short_enums, is_message_spellable, is_spellable, TextsAreSpellable}
 use Rattle.fl_check.specs.Checks.{interface_from}
 use Rattle.fl_check.proofs.Limits.{or_right, all_prefix, all_back}
 use Rattle.fl_check.proofs.TextTrees.{IsSmall, text_is_small}
+use Rattle.fl_check.proofs.Names.{call_named, response_named}
 
 -- every type declared has short enums, and every message is spellable
 record Kept (b : Before) : Type 0 where
@@ -77,18 +78,6 @@ message_spellable b name args k h = both (is_name name) (list_all argument_has_s
 
 -- ---- the two names of an rpc
 
-longer_word : (prefix more : List ℕ) → is_word prefix ≡ true → list_all is_word_byte more ≡ true → is_word (prefix ++ more) ≡ true
-longer_word [] more w h = absurd cc
-longer_word (c ∷ prefix) more w h =
-    let all : list_all is_word_byte (prefix ++ more) ≡ true =
-    list_all-append is_word_byte prefix more ∙ both (list_all is_word_byte prefix) (list_all is_word_byte more) (second_so (is_letter c) (list_all is_word_byte prefix) w) h in
-    both (is_letter c) (list_all is_word_byte (prefix ++ more)) (first_so (is_letter c) (list_all is_word_byte prefix) w) all
-
-longer_name : (prefix more : List ℕ) → is_name prefix ≡ true → list_all is_word_byte more ≡ true → length prefix + length more ≤ 64 → is_name (prefix ++ more) ≡ true
-longer_name prefix more n h few =
-    both (nat_le (length (prefix ++ more)) 64) (is_word (prefix ++ more)) (le-leb (length (prefix ++ more)) 64 (omega (arith, few, length-append prefix more)))
-    (longer_word prefix more (second_so (nat_le (length prefix) 64) (is_word prefix) n) h)
-
 not_broken : (n : ℕ) (b : Bool) → rule n b ≡ [] → b ≡ false
 not_broken n true e = absurd cc
 not_broken n false e = refl
@@ -134,8 +123,8 @@ kept_after b (rpc_of name args) k h s =
     let m1 = message_from b (call_name name) (ins args) in
     let m2 = message_from b (response_name name) (outs args) in
     let few = rpc_name_short b name (All-head IsSound (rpc_name_place b name) (argument_places b [] 0 (arguments_of args) ++ whole_message_place name (some_too_long (m1 ∷ (m2 ∷ []))) ∷ []) s) in
-    let first = message_spellable b (call_name name) (ins args) k (longer_name name.text (codes "_call") h refl (omega (arith, few))) in
-    let second = message_spellable b (response_name name) (outs args) k (longer_name name.text (codes "_response") h refl (omega (arith, few))) in
+    let first = message_spellable b (call_name name) (ins args) k (call_named name h few) in
+    let second = message_spellable b (response_name name) (outs args) k (response_named name h few) in
     with_messages b (m1 ∷ (m2 ∷ [])) k (both (is_message_spellable m1) (is_message_spellable m2 && true) first (both (is_message_spellable m2) true second refl))
 
 kept_all : (b : Before) (ds : List TheDeclaration) → Kept b → AllByRecursion IsSmall ds → All IsSound (places_from b ds) → Kept (after_all b ds)

@@ -1,5 +1,5 @@
 -- What the grammar says of the names of a text's tree, and of how many enumerators an enum has.
-use Rattle.std.proofs.Common.{nat_le, ◌≡◌, ℕ, ◌≤◌, true, List, [], ◌∷◌, ◌++◌, length, length-append, Option, Some, sym, ap, subst, arith, inl, inr, ◌⊎◌}
+use Rattle.std.proofs.Common.{◌≡◌, ℕ, ◌≤◌, true, List, [], ◌∷◌, ◌++◌, length, length-append, Option, Some, sym, ap, subst, arith, inl, inr, ◌⊎◌}
 use Rattle.std.specs.List.{AllByRecursion}
 use Rattle.fl_lex.specs.Spelling.{token, IsItem}
 use Rattle.fl_lex.specs.Token.{TheToken, TheTokens}
@@ -8,13 +8,10 @@ use Rattle.fl_lex.specs.declared.token.Mark.TheVariants.{Comma}
 use Rattle.fl_lex.specs.declared.token.TokenKind.{TokenKind}
 use Rattle.fl_lex.specs.declared.token.TokenKind.TheVariants as kinds
 use Rattle.fl_lex.proofs.Turns.{tokens_in}
+use Rattle.fl_lex.proofs.Names.{name_of_word}
 use Rattle.fl_parse.specs.Tree.{TheName, TheDeclaration, alias_of, typedef_of, enum_of, struct_of, message_of, rpc_of, TheTree}
 use Rattle.fl_parse.specs.Grammar.{One, Then, Joined, Many, TheMark, AName, Members, Defined, enum_word, struct_word, type_word, Definition, Opening, alias_word, typedef_word, message_word, rpc_word, Production, ADeclaration, Body, Derives, name_from}
-use Rattle.std.specs.List.{list_all}
-use Rattle.std.proofs.lemmas.Bool.{le-leb}
-use Rattle.fl_lex.specs.Words.{is_letter, is_word_byte, is_word, is_name}
-use Rattle.fl_lex.specs.Spelling.{IsWord}
-use Rattle.fl_lex.proofs.Classes.{both}
+use Rattle.fl_lex.specs.Words.{is_name}
 
 -- a token is one of its kind, within the limits
 abbrev pub IsRight : TheToken → Type 0
@@ -55,14 +52,6 @@ behind_one {tokens = tokens} p r = record {
 }
 
 -- ---- names
-
-word_of : (text : List ℕ) → IsWord text → is_word text ≡ true
-word_of [] h = absurd h
-word_of (b ∷ more) h = both (is_letter b) (list_all is_word_byte more) h.0 h.1
-
--- a word within the limit is a name
-name_of_word : (text : List ℕ) → IsWord text → length text ≤ 64 → is_name text ≡ true
-name_of_word text h few = both (nat_le (length text) 64) (is_word text) (le-leb (length text) 64 few) (word_of text h)
 
 abbrev some_name : TheName → Option TheName
 some_name x = Some x

@@ -1,6 +1,6 @@
 -- The public promises rest on Known (what names stand for), Places (the rules broken at each place of a tree), Checks, Outcome
 -- and Faults (an interface or the first fault), Texts, TooLong, Position and Explained; what an interface is stands in
--- fl_interface. Views is a working file.
+-- fl_interface. Views and Named are working files.
 pub mod Known
 pub mod Places
 pub mod Checks
@@ -8,6 +8,7 @@ pub mod Texts
 pub mod TooLong
 pub mod Faults
 pub mod Views
+pub mod Named
 pub mod Outcome
 pub mod Position
 pub mod Explained

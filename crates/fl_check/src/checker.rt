@@ -31,7 +31,7 @@ pub fn check(alloc: Global, tree: &Tree) -> Result<Interface, CheckFault>
     ensures memory { IfErr result (λ fault. fault ≡ Memory → All IsSound (first_looks (tree_of tree.now).declarations)) }
 {
     let declared = declare_all(alloc, &tree.declarations)?;
-    let name = word_of(alloc, tree.name.text)?;
+    let name = word_of(alloc, &tree.name)?;
     let messages = declared.into_messages(alloc)?;
     counts_fit(&messages);
     Ok(Interface { name, messages })

@@ -1,6 +1,7 @@
 //! Declarations, each by its rules in their order.
 
-ghost use Rattle.std.specs.Prelude.{◌≡◌, ◌∷◌, [], ◌++◌, OnOk, IfOk, IfErr, None, map, option_map, false};
+ghost use Rattle.std.specs.Prelude.{◌≡◌, ◌≤◌, ◌∷◌, [], ◌++◌, OnOk, IfOk, IfErr, None, true, false, length, map, option_map};
+ghost use Rattle.fl_lex.specs.Words.{is_name};
 ghost use Rattle.std.specs.Str.{bytes_eq};
 ghost use Rattle.fl_interface.specs.Interface.{arg_type_of};
 ghost use Rattle.fl_check.specs.Known.{after, argument_type, call_name, response_name, ins, outs, message_from, messages_of};
@@ -63,6 +64,7 @@ impl<'a> Declared<'a> {
         requires response { response.now ≡ response_name (name_of name.now) }
         ensures no_call { OnOk result (is_among (message_names (before_of self.now)) call.now ≡ false) }
         ensures no_response { OnOk result (is_among (message_names (before_of self.now)) response.now ≡ false) }
+        ensures short { OnOk result (length name.now.text.now ≤ 55) }
         ensures sound { OnOk result (first_fault (rpc_name_place (before_of self.now) (name_of name.now) ∷ []) ≡ None) }
         ensures fault { IfErr result (λ e. Tells e (first_fault (rpc_name_place (before_of self.now) (name_of name.now) ∷ []))) }
     {
@@ -196,6 +198,7 @@ impl<'a> Declared<'a> {
     fn name_rpc(&self, alloc: Global, name: &Name) -> Result<(Vec<u8>, Vec<u8>), CheckFault>
         ensures call { IfOk result (λ n. n.0.items ≡ call_name (name_of name.now)) }
         ensures response { IfOk result (λ n. n.1.items ≡ response_name (name_of name.now)) }
+        ensures words { IfOk result (λ n. (is_name n.0.items ≡ true) × (is_name n.1.items ≡ true)) }
         ensures no_call { IfOk result (λ n. is_among (message_names (before_of self.now)) n.0.items ≡ false) }
         ensures no_response { IfOk result (λ n. is_among (message_names (before_of self.now)) n.1.items ≡ false) }
         ensures sound { OnOk result (first_fault (rpc_name_place (before_of self.now) (name_of name.now) ∷ []) ≡ None) }
@@ -240,6 +243,8 @@ impl<'a> Declared<'a> {
         requires no_call { is_among (message_names (before_of self.old)) call.items ≡ false }
         requires no_response { is_among (message_names (before_of self.old)) response.items ≡ false }
         requires two { bytes_eq call.items response.items ≡ false }
+        requires call { is_name call.items ≡ true }
+        requires response { is_name response.items ≡ true }
         ensures types { OnOk result ((before_of self.new).types ≡ (before_of self.old).types) }
         ensures messages { OnOk result ((before_of self.new).messages ≡ (before_of self.old).messages
             ++ record { name = call.items; args = map arg_type_of ins.items }

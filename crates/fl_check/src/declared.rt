@@ -1,6 +1,8 @@
 //! What is declared before a place of the tree.
 
-ghost use Rattle.std.specs.Prelude.{◌≤◌};
+ghost use Rattle.std.specs.Prelude.{◌≡◌, ◌≤◌, true};
+ghost use Rattle.std.specs.List.{list_all};
+ghost use Rattle.fl_check.specs.Named.{is_named};
 
 use crate::fault::CheckFault;
 use crate::measured::Measured;
@@ -23,6 +25,7 @@ pub struct KnownType {
 pub struct Declared<'a> {
     pub types: IndexMap<&'a [u8], KnownType>,
     pub messages: IndexMap<Vec<u8>, Vec<ArgType>>,
+    ghost named: { list_all is_named messages.entries ≡ true },
 }
 
 impl<'a> Declared<'a> {
@@ -32,6 +35,7 @@ impl<'a> Declared<'a> {
     ghost use Rattle.fl_interface.specs.Limits.{is_among};
     ghost use Rattle.fl_check.specs.Places.{type_names, message_names};
     ghost use Rattle.fl_check.specs.Views.{before_of};
+    ghost use Rattle.fl_lex.specs.Words.{is_name};
     ghost use Rattle.fl_check.specs.declared.fault.CheckFault.TheVariants.{Memory};
 
     pub fn new(alloc: Global) -> Declared<'a>
@@ -90,6 +94,7 @@ impl<'a> Declared<'a> {
     /// Adds a message of a name that no declared message has.
     pub fn push_message(&mut self, name: Vec<u8>, args: Vec<ArgType>) -> Result<(), CheckFault>
         requires new { is_among (message_names (before_of self.old)) name.items ≡ false }
+        requires word { is_name name.items ≡ true }
         ensures types { OnOk result ((before_of self.new).types ≡ (before_of self.old).types) }
         ensures messages { OnOk result ((before_of self.new).messages ≡ (before_of self.old).messages
             ++ record { name = name.items; args = map arg_type_of args.items } ∷ []) }

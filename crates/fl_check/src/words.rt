@@ -7,6 +7,7 @@ ghost use Rattle.fl_interface.specs.Limits.{is_among};
 ghost use Rattle.fl_check.specs.Views.{list_of};
 
 use fl_interface::{Scalar, Word};
+use fl_parse::Name;
 use indexmap::IndexSet;
 use std::alloc::{AllocError, Global};
 
@@ -89,13 +90,12 @@ impl<'a> DistinctNames<'a> {
     }
 }
 
-/// A word of its own memory.
-pub fn word_of(alloc: Global, text: &[u8]) -> Result<Word, AllocError>
-    ensures equal { IfOk result (λ w. w.bytes.items ≡ text.now) }
+/// A name of its own memory.
+pub fn word_of(alloc: Global, name: &Name) -> Result<Word, AllocError>
+    ensures equal { IfOk result (λ w. w.bytes.items ≡ name.now.text.now) }
 {
-    Ok(Word {
-        bytes: text.to_vec(alloc)?,
-    })
+    let bytes = name.text.to_vec(alloc)?;
+    Ok(Word { bytes })
 }
 
 /// The bytes of a name and an ending behind it.

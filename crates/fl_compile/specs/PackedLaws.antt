@@ -24,6 +24,6 @@ abbrev pub SpreadsCalls : Type 0
 SpreadsCalls = (plan : PlanNo) (i : TheInterface) (m : TheMessage) (c : TheCall) → HasMessage i c.msg m → fits_of i c ≡ true
     → block_spread (message_block Send plan m) (spread_first (packed_of plan i c)) ≡ record { given = payload_of plan i c; left = [] }
 
--- prepared code of a program's message
+-- prepared code of a program's message, where the program has that message; of another it says nothing
 abbrev pub IsPrepared : TheProgram → ℕ → TheSteps → Type 0
 IsPrepared p msg steps = (m : TheMessage) → slice_get p.interface.messages msg ≡ Some m → Means steps (message_block Send p.plan m)

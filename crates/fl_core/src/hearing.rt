@@ -104,7 +104,7 @@ fn hear_with_end(
     let Ok(copy) = program.duplicate(alloc) else {
         return Err(MonitorFault::Memory);
     };
-    board.sound();
+    board.law_sound();
     let circuit = circuit_in(message);
     match add_circuit_end(alloc, board, dispatcher, copy, Some(circuit)) {
         Err(_) => Err(MonitorFault::Memory),

@@ -52,7 +52,7 @@ impl Board {
         if dispatcher >= self.dispatchers() {
             return false;
         }
-        self.sound();
+        self.law_sound();
         self.ends_at(dispatcher) + count <= MAX_CHANNELS
     }
 }
@@ -124,7 +124,7 @@ impl Core {
             both.client_wired_end(),
             both.server_wired_end(),
         );
-        self.sound();
+        self.law_sound();
         let Ok(client) = self.add_end(both.client.dispatcher, both.client.end, client_wired_end)
         else {
             return Err(BoardFault::Memory);

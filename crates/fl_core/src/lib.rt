@@ -31,7 +31,7 @@
 //! - `ends.rt`: events of an end, and turns
 //! - `links.rt`: events of a link
 //! - `hearing.rt`: what a monitors' message comes to
-//! - `places.rt`: where ends are, by name
+//! - `places.rt`: where ends are, by name; an end's number, [`slot_of`]
 //! - `wiring.rt`: how ends and links are wired; `numbers.rt`: the numbers of sides and queues, changed
 //! - `answer.rt`: what events on links come to
 //! - `fault.rt`: why a call is refused
@@ -83,5 +83,6 @@ pub use kind::ChannelKind;
 pub use law::{law_one_dispatcher_changes, law_one_end_changes, law_turn_accounts};
 pub use one_board::Board;
 pub use one_core::Core;
+pub use places::slot_of;
 pub use turn_answer::{AckAnswer, TurnAnswer};
 pub use wiring::{ArrivalPlace, EndWiring, Inlet, LinkSide, Outlet, WiredEnd};

@@ -43,7 +43,7 @@ pub(crate) fn find_place(board: &Board, dispatcher: usize) -> Result<(), BoardFa
     ensures place { OnOk result (HasPlace board.now dispatcher) }
     ensures refused { IfErr result (HasAllEnds board.now dispatcher) }
 {
-    board.sound();
+    board.law_sound();
     if board.ends_at(dispatcher) >= MAX_CHANNELS {
         return Err(BoardFault::TooManyEnds);
     }

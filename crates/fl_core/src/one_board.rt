@@ -94,7 +94,7 @@ impl Board {
     }
 
     /// What is known of a board at any time. It does nothing.
-    pub fn sound(&self)
+    pub fn law_sound(&self)
         ensures sound { IsBoard self.now }
     {
         let _ends = self.seats.len();
@@ -159,7 +159,7 @@ impl Board {
         match make_room(&mut at.ends, &mut self.seats) {
             Err(fault) => Err(fault),
             Ok(()) => {
-                end.sound();
+                end.law_sound();
                 let Ok(()) = end.add_place(&mut self.calls) else {
                     return Err(BoardFault::Memory);
                 };
@@ -203,7 +203,7 @@ impl Board {
 
     /// What is known of an end at any time. It does nothing.
     #[inline]
-    pub fn end_sound(&self, e: usize)
+    pub fn law_end_sound(&self, e: usize)
         requires { e < length self.now.seats }
         ensures sound { Holds self.now e (λ s. Sound s.end) }
     {
@@ -243,7 +243,7 @@ impl Board {
         requires interface { Holds self.old e (λ s. interface_in s.end ≡ interface_in other.old) }
         ensures exchanges { ChangesEnd self.old e (λ s t. Exchanges s other.old t other.new) self.new }
     {
-        other.sound();
+        other.law_sound();
         law_exchange_accounts();
         let seat = &mut self.seats[e];
         seat.end.exchange_rules(other);

@@ -103,13 +103,13 @@ impl Core {
     }
 
     /// What is known of a core at any time. It does nothing.
-    pub fn sound(&self)
+    pub fn law_sound(&self)
         ensures sound { IsCore self.now }
         ensures board { IsBoard self.now.board }
         ensures outboxes { HasOutboxes self.now.monitor }
     {
-        self.board.sound();
-        self.monitor.sound();
+        self.board.law_sound();
+        self.monitor.law_sound();
     }
 
     /// Its dispatchers and their ends.

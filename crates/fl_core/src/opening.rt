@@ -27,7 +27,7 @@ fn add_client_end(
     requires place { HasPlace board.old dispatcher }
     ensures begins { BeginsOn (asked dispatcher program link opening.now) board.old monitor.old result board.new monitor.new }
 {
-    board.sound();
+    board.law_sound();
     match add_circuit_end(alloc, board, dispatcher, program, None) {
         Err(fault) => Err(OpenFault::Board(fault)),
         Ok(place) => match monitor.start_open(link, opening) {

@@ -73,7 +73,7 @@ no_arrivals {P} k e h core q = by_wired_end (slice_get k.wired_ends e) refl q wh
   by_wired_end None r x = absurd (cc)
   by_wired_end (Some p) r x = by_wiring p p.wiring (core.wired e p r) (some_is (inlet_by p.wiring) inlet.Arrivals x)
 
--- where an end that acknowledges takes from, by its berth
+-- where an end that acknowledges takes from, by its side of a ring
 ring_end_by : {B : Type 0} (b : B) (make : ℕ → ℕ → B) (side : B → ℕ) → ((e m : ℕ) → side (make e m) ≡ m) → (s : TheRun TheSide) (o : Option Inlet) (f : ℕ)
     → (given o None λ from. given (side_in from) None λ n. if nat_lt n (length s.rings) then Some (make f n) else None) ≡ Some b
     → o ≡ Some (inlet.Side (side b))

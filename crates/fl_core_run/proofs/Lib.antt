@@ -15,7 +15,7 @@ pub mod Writing
 pub mod Sounding
 pub mod Refusing
 pub mod Rows
-pub mod Desking
+pub mod AtProgress
 pub mod Sides
 pub mod Crossing
 pub mod Calling

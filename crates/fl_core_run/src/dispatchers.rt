@@ -14,7 +14,7 @@ ghost use Rattle.fl_core_run.specs.Stops.{LeavesTurn, StopsIn};
 
 use crate::ends::next_job;
 use crate::lent::lent_due;
-use crate::running::{RunningCore, sound, sound_at};
+use crate::running::{RunningCore, law_sound, law_sound_at};
 use fl_core::{CoreJob, Inlet, TurnAnswer};
 use fl_link::{PutSide, TakeSide};
 use std::alloc::AllocError;
@@ -91,11 +91,11 @@ pub(crate) fn turn<S: PutSide + TakeSide + Drop>(
     ensures turns { OnOk result (TakesTurn (ways S.puts S.takes S.front) jobs.now dispatcher (run_of run.old) (run_of run.new)) }
     ensures left { OnErr result (LeavesTurn (ways S.puts S.takes S.front) jobs.now dispatcher (run_of run.old) (run_of run.new)) }
 {
-    sound(run);
+    law_sound(run);
     let Some(at) = lent_due(run, dispatcher) else {
         return Ok(());
     };
-    sound_at(run, at.end);
+    law_sound_at(run, at.end);
     let name = run.core.name(at.end);
     let progress = run.progress_of(name);
     if awaits(run, jobs, progress) {

@@ -1,10 +1,10 @@
 //! Where the jobs of an end lie, and what came of it.
 
 ghost use Rattle.std.specs.Prelude.{◌≡◌, ◌<◌, [], length, slice_get, IfOk, IfSome, OnOk, OnErr};
-ghost use Rattle.fl_core.specs.View.{side_number};
 ghost use Rattle.fl_core_run.specs.EndProgress.{advanced, is_clear, with_handled, with_refusal, progress_place};
 
-use fl_base::{EndId, MAX_BINDINGS, Side};
+use fl_base::{EndId, MAX_BINDINGS};
+use fl_core::slot_of;
 use fl_value_data::Call;
 use std::alloc::{AllocError, Global};
 use std::marker::Model;
@@ -127,17 +127,6 @@ impl EndProgress {
     }
 }
 
-// A binding's client stands before its server.
-fn side_number(side: Side) -> usize
-    ensures number { result ≡ side_number side }
-    ensures few { result < 2 }
-{
-    match side {
-        Side::Client => 0,
-        Side::Server => 1,
-    }
-}
-
 // Where the end's progress of an end is.
 pub(crate) fn find(progresses: &[EndProgress], name: EndId) -> Option<usize>
     ensures place { result ≡ progress_place progresses.now name }
@@ -146,7 +135,7 @@ pub(crate) fn find(progresses: &[EndProgress], name: EndId) -> Option<usize>
     if name.binding >= MAX_BINDINGS {
         return None;
     }
-    let place = 2 * name.binding + side_number(name.side);
+    let place = slot_of(name);
     if place < progresses.len() {
         Some(place)
     } else {

@@ -14,7 +14,7 @@ ghost use Rattle.fl_core_run.specs.Stops.{LeavesJob, StopsAmong};
 
 use crate::lent::{lent_post, lent_ring_end};
 use crate::opening::open;
-use crate::running::{RunningCore, sound, sound_at};
+use crate::running::{RunningCore, law_sound, law_sound_at};
 use fl_base::{EndId, MsgNo};
 use fl_core::{CoreJob, Outlet};
 use fl_endpoint::{EndFault, WriteAnswer};
@@ -82,11 +82,11 @@ fn try_call<S: PutSide + TakeSide + Drop>(
     ensures kept { OnErr result (run_of run.new ≡ run_of run.old) }
     ensures accepts { OnErr result (AcceptsAt run.old.core name (call_of next.now)) }
 {
-    sound(run);
+    law_sound(run);
     match run.core.place(name) {
         None => Ok(None),
         Some(e) => {
-            sound_at(run, e);
+            law_sound_at(run, e);
             // it would be refused, once it was looked at whether it fits
             if run.core.board().end(e).is_busy() {
                 return Ok(Some(e));
@@ -117,11 +117,11 @@ fn try_rule<S: PutSide + TakeSide + Drop>(
     ensures rules { RulesAt (ways S.puts S.takes S.front) (reply_rule name msg reply) (place_of run.old.core name) (run_of run.old) (run_of run.new) }
     ensures place { IsPlaceOf run.new.core name result }
 {
-    sound(run);
+    law_sound(run);
     match run.core.place(name) {
         None => None,
         Some(e) => {
-            sound_at(run, e);
+            law_sound_at(run, e);
             let _ = run.core.reply_rule(e, msg, reply);
             advance(run, progress);
             Some(e)
@@ -181,13 +181,13 @@ pub(crate) fn write<S: PutSide + TakeSide + Drop>(run: &mut RunningCore<S>, plac
     ensures writes { OfPlace place (run_of run.old) (λ name. WritesFrom (ways S.puts S.takes S.front) name (lent_post (run_of run.old) name)
         (run_of run.old) (run_of run.new)) }
 {
-    sound(run);
+    law_sound(run);
     match place {
         None => (),
         Some(e) => match lent_post(run, e) {
             None => (),
             Some(post) => {
-                sound_at(run, e);
+                law_sound_at(run, e);
                 let answer = write_to(run, e, post.outlet);
                 if matches!(answer, Ok(WriteAnswer::Written { .. })) {
                     run.idle = 0;
@@ -222,7 +222,7 @@ pub(crate) fn serve_all<S: PutSide + TakeSide + Drop>(
 pub(crate) fn ack<S: PutSide + TakeSide + Drop>(run: &mut RunningCore<S>, name: EndId)
     ensures acks { Acknowledges (ways S.puts S.takes S.front) name (run_of run.old) (run_of run.new) }
 {
-    sound(run);
+    law_sound(run);
     match lent_ring_end(run, name) {
         None => (),
         Some(ring_end) => {

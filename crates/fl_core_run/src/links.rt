@@ -14,7 +14,7 @@ ghost use Rattle.fl_core.specs.Hearing.{HearsFragLast};
 ghost use Rattle.fl_core_run.specs.Inside.{Fronts, Foresees};
 
 use crate::lent::lent_link_side;
-use crate::running::{RunningCore, sound};
+use crate::running::{RunningCore, law_sound};
 use fl_base::{Circuit, EndId, Frag, LinkId};
 use fl_core::{LinkFront, LinkReceiveFault, MonitorAnswer};
 use fl_hop::ForwardOutcome;
@@ -130,7 +130,7 @@ fn hand_out<S: PutSide + TakeSide + Drop>(
     ensures left { OnErr result ((frag : TheFrag) × (found ≡ Ok (Message frag)) × (run_of run.new ≡ run_of run.old)
         × HearsFragLast (run_of run.old).offers link frag run.old.core LinkReceiveFault.Memory) }
 {
-    sound(run);
+    law_sound(run);
     match found {
         Ok(LinkFront::Nothing) | Err(_) => Ok(()),
         Ok(LinkFront::Acknowledged) => {
@@ -166,7 +166,7 @@ pub(crate) fn forward<S: PutSide + TakeSide + Drop>(
     ensures forwards { OnOk result (Forwards (ways S.puts S.takes S.front) link (run_of run.old) (run_of run.new)) }
     ensures left { OnErr result (LeavesMessage (ways S.puts S.takes S.front) link (run_of run.old) (run_of run.new)) }
 {
-    sound(run);
+    law_sound(run);
     match lent_link_side(run, link) {
         None => Ok(()),
         Some(n) => {
@@ -197,7 +197,7 @@ pub(crate) fn forward_all<S: PutSide + TakeSide + Drop>(
 pub(crate) fn say<S: PutSide + TakeSide + Drop>(run: &mut RunningCore<S>, link: LinkId)
     ensures says { Says (ways S.puts S.takes S.front) link (run_of run.old) (run_of run.new) }
 {
-    sound(run);
+    law_sound(run);
     match lent_link_side(run, link) {
         None => (),
         Some(n) => {
@@ -221,7 +221,7 @@ pub(crate) fn say_all<S: PutSide + TakeSide + Drop>(run: &mut RunningCore<S>, li
 pub(crate) fn tell<S: PutSide + TakeSide + Drop>(run: &mut RunningCore<S>, link: LinkId)
     ensures tells { Tells (ways S.puts S.takes S.front) link (run_of run.old) (run_of run.new) }
 {
-    sound(run);
+    law_sound(run);
     match lent_link_side(run, link) {
         None => (),
         Some(n) => {

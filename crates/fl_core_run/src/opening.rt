@@ -9,7 +9,7 @@ ghost use Rattle.fl_core_run.specs.Steps.{lacks_to_open, may_ask, OpensIf};
 ghost use Rattle.fl_core_run.specs.Wants.{BeginsCircuit};
 
 use crate::ends::advance;
-use crate::running::{RunningCore, sound};
+use crate::running::{RunningCore, law_sound};
 use fl_base::{EndId, MAX_BINDINGS, Side};
 use fl_compile::Program;
 use fl_core::{BoardFault, OpenFault, OpenRequest};
@@ -102,7 +102,7 @@ pub(crate) fn open<S: PutSide + TakeSide + Drop>(
     ensures kept { OnErr result (run_of run.new ≡ run_of run.old) }
     ensures begins { OnErr result (BeginsCircuit (run_of run.old) request.now) }
 {
-    sound(run);
+    law_sound(run);
     if !may_ask(run, request) {
         return Ok(());
     }

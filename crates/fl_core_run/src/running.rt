@@ -17,7 +17,7 @@ use crate::plan::TurnPlan;
 use fl_base::EndId;
 use fl_compile::Program;
 use fl_core::{Core, CoreJob};
-use fl_hop::never_shared;
+use fl_hop::law_never_shared;
 use fl_link::{PutSide, QueueLink, TakeSide};
 use fl_nameserv::Names;
 use std::alloc::{AllocError, Global};
@@ -42,19 +42,19 @@ pub struct RunningCore<S> {
 }
 
 // What is known of its core at any time. It does nothing.
-pub(crate) fn sound<S>(run: &RunningCore<S>)
+pub(crate) fn law_sound<S>(run: &RunningCore<S>)
     ensures sound { IsSound run.now.core }
 {
-    run.core.sound();
-    never_shared(run.core.monitor().circuits());
+    run.core.law_sound();
+    law_never_shared(run.core.monitor().circuits());
 }
 
 // What is known of the end at a place at any time. It does nothing.
-pub(crate) fn sound_at<S>(run: &RunningCore<S>, e: usize)
+pub(crate) fn law_sound_at<S>(run: &RunningCore<S>, e: usize)
     requires there { e < length run.now.core.board.seats }
     ensures sound { OfPlace (Some e) (run_of run.now) (λ name. IsSoundAt (run_of run.now) name) }
 {
-    run.core.board().end_sound(e);
+    run.core.board().law_end_sound(e);
 }
 
 impl<S> RunningCore<S> {

@@ -218,5 +218,5 @@ lent_serves w s sound board lent = record {
   link_sides = link_side s sound lent;
   posts = post s sound lent;
   turns = turn_lent s sound lent board;
-  berths = ring_end s sound lent;
+  ring_ends = ring_end s sound lent;
 }

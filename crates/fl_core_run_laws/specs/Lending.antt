@@ -36,7 +36,7 @@ pub record LendsAll {S : Type 0} (s : TheRun S) : Type 0 where
   pub link_sides : (l : LinkId) → l.0 < length s.core.link_sides → IsSome (lent_link_side s l)
   pub posts : (name : EndId) (e : ℕ) → place_of s.core name ≡ Some e → IsSome (lent_post s name)
   pub turns : (d e : ℕ) → due s.core.board d ≡ Some e → IsSome (lent_due s d)
-  pub berths : (name : EndId) (e n : ℕ) → place_of s.core name ≡ Some e → inlet_of s.core e ≡ Some (Side n) → IsSome (lent_ring_end s name)
+  pub ring_ends : (name : EndId) (e n : ℕ) → place_of s.core name ≡ Some e → inlet_of s.core e ≡ Some (Side n) → IsSome (lent_ring_end s name)
 
 abbrev pub LentServes : {S : Type 0} → SideRelations S → Type 0
 LentServes {S} w = (s : TheRun S) → IsCore s.core → IsBoard s.core.board → IsLent s → LendsAll s

@@ -87,7 +87,7 @@ named_comes names (Err Memory) d v h = tt
 pub call_taken : {T : Type 0} (r : Reading) (d : Draft) (rest : List ℕ) (event : RustEvent) (v : LineVerdict Draft) (result : Result T CoresLineFault)
     → LineTells r.names (command_by verb.Call rest) (Ok event) → does r (asks (event_of event) r.names) ≡ named_by r.names v → Comes result d v
     → ComesTo result (let r2 : Reading = record { names = r.names; draft = d } in r2) (Does r (a_line (line_with (command_by verb.Call rest))))
-call_taken r d rest event v result (inl bad) same h = absurd (cc)
+call_taken r d rest event v result (inl (bad, asks_one)) same h = absurd (cc)
 call_taken r d rest event v result (inr t) same h =
     let r2 : Reading = record { names = r.names; draft = d } in
     comes_to result r2 (Does r (a_line (line_with (command_by verb.Call rest)))) (does r t.0) (line_does r rest t.0 t.1)
@@ -104,7 +104,7 @@ refused_comes r NoMemory x P is p = tt
 
 pub call_refused : (r : Reading) (rest : List ℕ) (fault : LineFault) → LineTells r.names (command_by verb.Call rest) (Err fault)
     → ComesTo {T = Unit {0}} (Err (stop_of (refusal_of fault))) r (Does r (a_line (line_with (command_by verb.Call rest))))
-call_refused r rest fault (inl bad) =
+call_refused r rest fault (inl (bad, asks_one)) =
     let is : fault ≡ NoMemory = cc in
     subst (λ (f : LineFault). ComesTo {T = Unit {0}} (Err (stop_of (refusal_of f))) r (Does r (a_line (line_with (command_by verb.Call rest))))) (sym is) tt
 call_refused r rest fault (inr t) =

@@ -19,7 +19,7 @@ use crate::noting::run_thread;
 use fl_core::{Core, CoreJob};
 use fl_core_run::{Gate, core_run};
 use fl_cores_table::EndSeat;
-use fl_hop::never_shared;
+use fl_hop::law_never_shared;
 use std::alloc::{AllocError, Global};
 use std::snapshot::Snapshot;
 use std::sync::Wait;
@@ -39,25 +39,25 @@ impl<'a> Promise<Result<FinishedCore, AllocError>> for RunInputs<'a> {
 }
 
 // What is known of the end at a place. It does nothing.
-fn sound_at(core: &Core, e: usize)
+fn law_sound_at(core: &Core, e: usize)
     requires there { e < length core.now.board.seats }
     ensures end { (seat : TheEndAtChannel) → slice_get core.now.board.seats e ≡ Some seat → IsEnd seat.end }
 {
-    core.board().end_sound(e);
+    core.board().law_end_sound(e);
 }
 
 // What is known of a core, of each of its ends, and of its circuits. It does nothing.
-pub(crate) fn sound(core: &Core)
+pub(crate) fn law_sound(core: &Core)
     ensures core { IsCore core.now }
     ensures board { IsBoard core.now.board }
     ensures outboxes { HasOutboxes core.now.monitor }
     ensures ends { (place : ℕ) (seat : TheEndAtChannel) → slice_get core.now.board.seats place ≡ Some seat → IsEnd seat.end }
     ensures table { IsTable core.now.monitor.circuits }
 {
-    core.sound();
-    never_shared(core.monitor().circuits());
+    core.law_sound();
+    law_never_shared(core.monitor().circuits());
     for e in 0..core.board().ends() {
-        sound_at(core, e);
+        law_sound_at(core, e);
     }
 }
 
@@ -83,7 +83,7 @@ pub(crate) fn run_one<R: Wait, G: Gate>(
         gate,
     ) {
         Ok(part) => {
-            sound(&core_thread.running.core);
+            law_sound(&core_thread.running.core);
             Ok(FinishedCore {
                 core_thread,
                 part,

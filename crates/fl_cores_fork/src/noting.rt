@@ -9,7 +9,7 @@ ghost use Rattle.fl_cores_fork.specs.Runs.{shared_ways, IsLeftSound};
 ghost use Rattle.fl_cores_fork.specs.CoreThreads.{outcome_of, came_to, IsReady, CoreThreadRan};
 
 use crate::core_thread::{CoreThread, FinishedCore};
-use crate::fork::{run_one, sound};
+use crate::fork::{law_sound, run_one};
 use fl_base::CoreId;
 use fl_core::{Core, CoreJob};
 use fl_core_run::{Gate, Part, RunSeat, RunningCore, TurnPlan, core_run};
@@ -127,7 +127,7 @@ fn run_over<R: Wait, G: Gate>(
 {
     match core_run(rt, running, plan, jobs, limit, run_seat, gate) {
         Ok(part) => {
-            sound(&running.core);
+            law_sound(&running.core);
             Ok(part)
         }
         Err(_) => Err(AllocError),

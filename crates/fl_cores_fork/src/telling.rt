@@ -20,10 +20,10 @@ ghost use Rattle.fl_cores_fork.specs.CoreThreads.{outcome_of, has_left_off, has_
 
 use crate::core_thread::FinishedCore;
 use fl_base::{EndId, MsgNo, Side};
-use fl_core::CoreJob;
+use fl_core::{CoreJob, slot_of};
 use fl_core_run::{EndProgress, RunEnd};
 use fl_cores_file::{CallsByEnd, Ending, Report};
-use fl_cores_jobs::{BindingCores, EndWork, JoinedJobs, slot_of};
+use fl_cores_jobs::{BindingCores, EndWork, JoinedJobs};
 use fl_value_data::{Call, Value};
 use std::alloc::{AllocError, Global};
 use std::mem;

@@ -17,7 +17,7 @@ mod Sources
 mod Spoken
 mod Stepwise
 mod Requested
-mod Wishing
+mod AskedFor
 mod Owed
 mod Passing
 mod FirstFault

@@ -52,10 +52,10 @@ abbrev pub with_calls : TheEndWork → TheEndWork
 with_calls d = record d { makes_calls = true }
 
 -- a reply rule of an end
-pub record SetAt (e : EndId) (msg answer : ℕ) (end_works dockets2 : List TheEndWork) : Type 0 where
+pub record SetAt (e : EndId) (msg answer : ℕ) (end_works end_works2 : List TheEndWork) : Type 0 where
   pub end_work : TheEndWork
   pub rules : Rules msg answer (end_work_at end_works e) end_work
-  pub rest : dockets2 ≡ changed_at (slot_of e) (λ d. end_work) end_works
+  pub rest : end_works2 ≡ changed_at (slot_of e) (λ d. end_work) end_works
 
 -- a binding that a job opens, and that job: the client's core does it, and it opens the next binding, of the interface that is asked for
 pub record Opened (cores : ℕ) (w : TheCircuitRequest) (j j2 : TheJoinedJobs) : Type 0 where

@@ -9,10 +9,10 @@ ghost use Rattle.fl_base.specs.Ends.{peer};
 ghost use Rattle.fl_cores_jobs.specs.EndWork.{end_work_of, end_work_at, rule_at, reply_by, due_in};
 ghost use Rattle.fl_cores_jobs.specs.State.{joined_of, changing, with_due, DuesUpTo};
 
-use crate::end_work::{EndWork, end_at, slot_of};
+use crate::end_work::{EndWork, end_at};
 use crate::joining::JoinedJobs;
 use fl_base::{EndId, MsgNo};
-use fl_core::CoreJob;
+use fl_core::{CoreJob, slot_of};
 
 // Whether there is a rule for a message.
 fn has_rule(rules: &[Option<MsgNo>], msg: MsgNo) -> bool

@@ -1,6 +1,6 @@
 //! Bindings that are set up or to be opened, and what is handed in at their ends.
 
-ghost use Rattle.std.specs.Prelude.{ℕ, ◌≡◌, ◌==◌, ◌+◌, ◌*◌, ◌^◌, ◌<◌, ◌≤◌, if◌then◌else◌, length, Some, OnOk};
+ghost use Rattle.std.specs.Prelude.{ℕ, ◌≡◌, ◌==◌, ◌+◌, ◌*◌, ◌<◌, ◌≤◌, if◌then◌else◌, length, Some, OnOk};
 ghost use Rattle.fl_core.specs.View.{slot_of};
 ghost use Rattle.fl_cores_jobs.specs.EndWork.{end_work_of, no_end_work, is_ruled, rule_at, answer_in, Rules, with_place};
 ghost use Rattle.fl_cores_jobs.specs.Joined.{core_of};
@@ -115,18 +115,7 @@ impl EndWork {
     }
 }
 
-/// Where what is handed in at an end stands: the client of binding b at 2 b, its server behind it.
-pub fn slot_of(end: EndId) -> usize
-    requires few { end.binding < 2 ^ 63 }
-    ensures slot { result ≡ slot_of end }
-{
-    match end.side {
-        Side::Client => 2 * end.binding,
-        Side::Server => 2 * end.binding + 1,
-    }
-}
-
-/// The end of a slot.
+/// The end whose number [`fl_core::slot_of`] gives.
 pub fn end_at(slot: usize) -> EndId
     ensures end { slot_of result ≡ slot }
     ensures binding { 2 * result.binding ≤ slot }

@@ -15,11 +15,11 @@ ghost use Rattle.fl_cores_jobs.specs.State.{joined_of, nothing_joined, with_bind
 ghost use Rattle.fl_cores_jobs.specs.State.{SetAt, IsSafe, Opened, CallPlanned, RulePlanned};
 ghost use Rattle.fl_cores_jobs.specs.Requested.{AddsOpening};
 
-use crate::end_work::{BindingCores, EndWork, slot_of};
+use crate::end_work::{BindingCores, EndWork};
 use crate::opening::ask;
 use fl_base::{EndId, MsgNo, Side, faults};
 use fl_compile::Program;
-use fl_core::{CoreJob, OpenRequest};
+use fl_core::{CoreJob, OpenRequest, slot_of};
 use fl_cores_file::{CircuitRequest, CoresLineFault};
 use fl_interface::same_args;
 use fl_value_data::{Call, fits};

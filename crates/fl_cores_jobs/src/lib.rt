@@ -31,7 +31,7 @@ mod opening;
 mod rules;
 mod whole;
 
-pub use end_work::{BindingCores, EndWork, end_at, slot_of};
+pub use end_work::{BindingCores, EndWork, end_at};
 pub use fault::JobFault;
 pub use joining::JoinedJobs;
 pub use law::law_one_refusal;

@@ -14,7 +14,7 @@ use fl_compile::Program;
 use fl_core::{Core, OpenRequest};
 use fl_cores_file::{CircuitRequest, CoresLineFault};
 use fl_monitor::{MAX_ROUTE, Opening, Path};
-use fl_nameserv::{Names, each_is_found, found_is_registered};
+use fl_nameserv::{Names, law_each_is_found, law_found_is_registered};
 use fl_world_refines::Parts;
 
 /// What is asked for, and the cores of both ends.
@@ -38,8 +38,8 @@ fn find(names: &Names, request: &CircuitRequest<'_>) -> Result<FoundService, Cor
     ensures named { IfOk result (λ f. IsNamed names.now request.now.service.now f.iref.0) }
     ensures refused { IfErr result (λ stop. RefusedFor (offer_fault names.now request.now.service.now request.now.interface) stop) }
 {
-    found_is_registered(names);
-    each_is_found(names);
+    law_found_is_registered(names);
+    law_each_is_found(names);
     let Ok(found) = names.lookup(request.service) else {
         return Err(CoresLineFault::Refused(faults::NO_SUCH_SERVICE));
     };
@@ -83,7 +83,7 @@ fn path_of(cores: &[u32]) -> Path
 }
 
 // The same, if there is one.
-#[tactic(auto, using(crate::proofs::Wishing::path_passes, crate::proofs::Wishing::path_fails, crate::proofs::Wishing::path_few))]
+#[tactic(auto, using(crate::proofs::AskedFor::path_passes, crate::proofs::AskedFor::path_fails, crate::proofs::AskedFor::path_few))]
 fn path_over(cores: &[u32]) -> Result<Path, CoresLineFault>
     ensures route { IfOk result (λ path. cores_on path ≡ cores.now) }
     ensures passes { OnOk result (path_fault cores.now ≡ None) }

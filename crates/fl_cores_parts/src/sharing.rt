@@ -8,7 +8,7 @@ ghost use Rattle.fl_world_refines.specs.ShowsState.{NamesQueue, NamesSide};
 use fl_base::LinkId;
 use fl_core::{Core, Inlet, Outlet};
 use fl_cores_shares::CoreShares;
-use fl_hop::{MAX_LINKS, never_shared};
+use fl_hop::{MAX_LINKS, law_never_shared};
 use fl_link::QueueLink;
 use fl_ring::{OneDuo, SharedSide};
 use std::alloc::{AllocError, Global};
@@ -66,8 +66,8 @@ fn own_end_sides(owners: &mut Vec<usize>, k: usize, core: &Core)
 fn own_sides(owners: &mut Vec<usize>, k: usize, core: &Core)
     ensures owns { Owns (NamesSide core.now) k owners.old.items owners.new.items }
 {
-    core.sound();
-    never_shared(core.monitor().circuits());
+    core.law_sound();
+    law_never_shared(core.monitor().circuits());
     own_links(owners, k, core);
     own_end_sides(owners, k, core);
 }
@@ -98,7 +98,7 @@ fn own_outlet(owners: &mut Vec<usize>, k: usize, core: &Core, e: usize)
 fn own_queues(owners: &mut Vec<usize>, k: usize, core: &Core)
     ensures owns { Owns (NamesQueue core.now) k owners.old.items owners.new.items }
 {
-    core.sound();
+    core.law_sound();
     for e in 0..core.board().ends() {
         own_inlet(owners, k, core, e);
         own_outlet(owners, k, core, e);

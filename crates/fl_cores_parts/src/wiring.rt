@@ -18,13 +18,13 @@ ghost use Rattle.fl_cores_parts.specs.CoreThreads.{core_share, stationed, AddsCo
 use crate::sharing::{SideOwners, hand_out_queues, hand_out_sides};
 use fl_base::{EndId, LinkId, Side};
 use fl_compile::Program;
-use fl_core::Core;
+use fl_core::{Core, slot_of};
 use fl_core_run::{EndProgress, OpeningStatus, RunSeat, RunningCore, TurnPlan};
 use fl_cores_fork::{CoreThread, core_at};
-use fl_cores_jobs::{BindingCores, JoinedJobs, slot_of};
+use fl_cores_jobs::{BindingCores, JoinedJobs};
 use fl_cores_shares::CoreShares;
 use fl_cores_table::EndSeat;
-use fl_hop::{Circuits, never_shared};
+use fl_hop::{Circuits, law_never_shared};
 use fl_link::QueueLink;
 use fl_nameserv::Names;
 use fl_ring::{OneDuo, SharedSide};
@@ -152,7 +152,7 @@ fn ends_of(
 fn link_count(circuits: &Circuits) -> u16
     ensures count { result ≡ length circuits.now.links }
 {
-    never_shared(circuits);
+    law_never_shared(circuits);
     circuits.links().len() as u16
 }
 
@@ -160,7 +160,7 @@ fn link_count(circuits: &Circuits) -> u16
 fn links_of(alloc: Global, core: &Core) -> Result<Vec<LinkId>, AllocError>
     ensures links { IfOk result (λ links. links.items ≡ links_below (length core.now.link_sides)) }
 {
-    core.sound();
+    core.law_sound();
     let mut links = Vec::new(alloc);
     for number in 0..link_count(core.monitor().circuits()) {
         links.push(LinkId(number))?;
@@ -287,7 +287,7 @@ impl CoreInputs<'_> {
         let mut running = self.running(k, core, rings, queues)?;
         let (plan, words) = self.plan(k, &running.core)?;
         running.core.renumber(self.sides, self.queues);
-        running.core.sound();
+        running.core.law_sound();
         Ok(CoreThread {
             running,
             plan,

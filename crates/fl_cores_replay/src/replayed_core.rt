@@ -4,10 +4,10 @@ use crate::replayed_side::{
     NO_RING_EFFECT, ReplayedPut, ReplayedSide, ReplayedSight, RingEffect, SentFrag,
 };
 use fl_base::{EndId, LinkId, MAX_BINDINGS};
-use fl_core::{CoreJob, Inlet};
+use fl_core::{CoreJob, Inlet, slot_of};
 use fl_core_run::{RunningCore, TurnPlan};
 use fl_cores::CoreOver;
-use fl_cores_jobs::{JoinedJobs, slot_of};
+use fl_cores_jobs::JoinedJobs;
 use std::alloc::{AllocError, Global};
 
 /// What a turn is made of.

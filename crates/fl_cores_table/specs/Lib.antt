@@ -1,3 +1,3 @@
--- The promises rest on Tally and Seats.
+-- The promises rest on Counter and Seats.
 pub mod Counter
 pub mod Seats

@@ -109,7 +109,7 @@ impl End {
 
     /// What is known of an end by itself at any time: a law of each end, for the layers above. It does nothing.
     #[inline]
-    pub fn sound(&self)
+    pub fn law_sound(&self)
         ensures sound { Sound self.now }
         ensures alone { self.now.parts ≡ [] }
     {

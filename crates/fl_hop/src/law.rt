@@ -19,7 +19,7 @@ use fl_link::{PutSide, TakeSide};
 
 /// In every table entries lead both ways, from the client to the server, and no two share a side; they stand at numbers
 /// that were given; and no two links go to one core.
-pub fn never_shared(circuits: &Circuits)
+pub fn law_never_shared(circuits: &Circuits)
     ensures sound { Sound circuits.now }
 {
     // The parts of a table say this.

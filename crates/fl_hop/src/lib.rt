@@ -38,8 +38,8 @@ pub use fault::HopFault;
 pub use forward::{ForwardOutcome, Forwarded, HopFront, deliver, move_on};
 pub use law::{
     law_along, law_carried_in, law_carried_on, law_circuits_join, law_forward_adds, law_later_on,
-    law_links_suffice, law_numbers_apart, law_openings_lead, law_own_alone, law_passage_adds,
-    law_stretches_join, never_shared,
+    law_links_suffice, law_never_shared, law_numbers_apart, law_openings_lead, law_own_alone,
+    law_passage_adds, law_stretches_join,
 };
 pub use links::LinkState;
 pub use numbers::{MAX_LINKS, MAX_OPENINGS};

@@ -11,7 +11,7 @@ use Rattle.fl_image.specs.declared.fault.BadImage.TheVariants.{OtherCode}
 use Rattle.fl_image.specs.declared.fault.ImageFault.{ImageFault}
 use Rattle.fl_image.specs.declared.fault.ImageFault.TheVariants.{Refused, Memory}
 use Rattle.fl_image.specs.declared.reader.ImageFields.{ImageFields}
-use Rattle.fl_image.specs.Image.{Fields, compiled, is_writable, has_image, image_of, fields_spelled}
+use Rattle.fl_image.specs.Image.{Fields, compiled, is_spellable, is_writable, has_image, image_of, fields_spelled}
 use Rattle.fl_image.specs.Reading.{Fails, all_of, FirstFault}
 use Rattle.fl_image.specs.Views.{found_view}
 use Rattle.fl_image.specs.Outcome.{Reads}
@@ -19,6 +19,7 @@ use Rattle.fl_image.proofs.ReadBack.{IsBytes}
 use Rattle.fl_image.proofs.WholeLaws.{all_takes, all_again}
 use Rattle.fl_image.proofs.Fitting.{read_has_image}
 use Rattle.fl_image.proofs.Arranged.{compiled_has}
+use Rattle.fl_image.proofs.Named.{spellable_enums}
 
 -- a program compiled from the fields that were read
 pub record Fitting (f : ImageFields) (p : Program) : Type 0 where
@@ -39,7 +40,7 @@ pub is_found_writable : (bytes : List ℕ) (f : ImageFields) (p : Program) → I
 is_found_writable bytes f p h e fit =
     let x = interface_of f.interface in
     let has : has_image x ≡ true = read_has_image x (all_takes bytes (found_view f) h e).1.interface in
-    ap is_writable fit.interface ∙ (and_parts (is_within_limits x) (is_writable x) has).1
+    ap is_writable fit.interface ∙ spellable_enums x (and_parts (is_within_limits x) (is_spellable x) has).1
 
 pub is_other : (bytes : List ℕ) (f : ImageFields) (p : Program) → IsBytes bytes → all_of bytes ≡ Ok (found_view f) → Fitting f p → (bytes ≡ image_of (program_of p).plan (program_of p).interface → ⊥)
     → FirstFault bytes OtherCode

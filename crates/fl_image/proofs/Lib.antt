@@ -1,6 +1,7 @@
 mod Loop
 mod ReadBack
 mod Numbers
+pub mod Named
 mod Nest
 mod TypeLaws
 mod Places

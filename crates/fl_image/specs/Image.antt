@@ -1,6 +1,6 @@
 -- How an image spells an interface and its code under a plan: its fields in order, numbers low byte first.
 use Rattle.std.specs.Prelude.{ℕ, ◌/◌, ◌%◌, ◌&&◌, Bool, List, [], ◌∷◌, ◌++◌, length, map}
-use Rattle.std.specs.List.{flat_map}
+use Rattle.std.specs.List.{flat_map, list_all}
 use Rattle.fl_interface.specs.declared.interface.Scalar.{Scalar}
 use Rattle.fl_interface.specs.declared.interface.Scalar.TheVariants as scalars
 use Rattle.fl_interface.specs.Interface.{TheType, scalar, enumeration, structure, array, TheTypes, no_more, field, TheArgType, fixed}
@@ -164,11 +164,15 @@ image_of plan x = fields_spelled (compiled plan x)
 
 -- ---- which interfaces have an image
 
--- an interface whose names and enums have room in an image: its names are words of 1 to 64 bytes, its enums have at most
--- 65,535 enumerators; every interface of a text is so
-abbrev pub is_writable : TheInterface → Bool
-is_writable x = is_spellable x
+-- a message whose enums have at most 65,535 enumerators
+abbrev pub message_has_short_enums : TheMessage → Bool
+message_has_short_enums m = list_all argument_has_short_enums m.args
 
--- an interface that has an image: within the limits, and writable
+-- an interface whose enums have room in an image, as those of every interface of a text
+abbrev pub is_writable : TheInterface → Bool
+is_writable x = list_all message_has_short_enums x.messages
+
+-- an interface that has an image: within the limits, and an image can spell it, since its names are words of 1 to 64 bytes, as
+-- those of each interface in memory, and its enums short
 abbrev pub has_image : TheInterface → Bool
-has_image x = is_within_limits x && is_writable x
+has_image x = is_within_limits x && is_spellable x

@@ -1,7 +1,7 @@
 //! Images: a compiled interface as bytes.
 //!
-//! Contract for the layers above: [`write_image`] gives the image of a program (`specs/Image.antt`) whose interface an image
-//! can spell ([`is_writable`]), and [`read_image`] gives a program exactly where the bytes are the image of an interface under
+//! Contract for the layers above: [`write_image`] gives the image of a program (`specs/Image.antt`) whose enums have room in an
+//! image ([`is_writable`]), and [`read_image`] gives a program exactly where the bytes are the image of an interface under
 //! a plan, or else the first fault from front to back (`specs/Reading.antt`). No two interfaces have one image
 //! ([`law_one_image`]), and what is refused of an image that was cut or has bytes behind it is known (`specs/Laws.antt`).
 //!

@@ -1,6 +1,6 @@
 //! Numbers and names read off the bytes of an image.
 
-ghost use Rattle.std.specs.Prelude.{◌≡◌, ◌<◌, IfOk, IfErr};
+ghost use Rattle.std.specs.Prelude.{◌≡◌, ◌<◌, ◌≤◌, IfOk, IfErr};
 ghost use Rattle.std.specs.List.{list_all};
 ghost use Rattle.fl_image.specs.Reading.{Gives, IsOfBytes, Behind, one_at, two_at, four_at, len_at, word_at, name_at};
 
@@ -47,6 +47,7 @@ pub(crate) fn four(bytes: &[u8]) -> Result<(u32, &[u8]), ImageFault>
 /// A word of so many bytes.
 #[tactic(auto, unfolding(crate::specs::Reading::word_at))]
 fn word(alloc: Global, len: usize, bytes: &[u8]) -> Result<(Word, &[u8]), ImageFault>
+    requires short { len ≤ 64 }
     ensures reads { Gives (λ x. (x.0.bytes.items, x.1.now)) result (word_at len bytes.now) }
     ensures memory { IfErr result (λ e. Behind e (word_at len bytes.now)) }
 {
@@ -58,7 +59,8 @@ fn word(alloc: Global, len: usize, bytes: &[u8]) -> Result<(Word, &[u8]), ImageF
         return Err(ImageFault::Refused(BadImage::BadField));
     }
     let bytes = Vec::from_slice(alloc, start)?;
-    Ok((Word { bytes }, rest))
+    let word = Word { bytes };
+    Ok((word, rest))
 }
 
 /// The length of a name.
@@ -66,6 +68,7 @@ fn word(alloc: Global, len: usize, bytes: &[u8]) -> Result<(Word, &[u8]), ImageF
 fn len(bytes: &[u8]) -> Result<(u8, &[u8]), ImageFault>
     ensures reads { Gives (λ x. (x.0, x.1.now)) result (len_at bytes.now) }
     ensures of_bytes { IfErr result IsOfBytes }
+    ensures short { IfOk result (λ x. x.0 ≤ 64) }
 {
     let (len, rest) = one(bytes)?;
     if !(1 <= len && usize::from(len) <= MAX_WORD) {

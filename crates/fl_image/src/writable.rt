@@ -1,12 +1,11 @@
-//! Whether an image has room for an interface's names and counts.
+//! Whether an image has room for an interface's enums.
 
 ghost use Rattle.std.specs.Prelude.{◌≡◌, map};
 ghost use Rattle.std.specs.List.{list_all};
 ghost use Rattle.fl_interface.specs.Interface.{type_of, arg_type_of, message_of, interface_of, fields_from};
-ghost use Rattle.fl_image.specs.Image.{has_short_enums, have_short_enums, argument_has_short_enums, is_message_spellable, is_writable};
+ghost use Rattle.fl_image.specs.Image.{has_short_enums, have_short_enums, argument_has_short_enums, message_has_short_enums, is_writable};
 
 use fl_interface::{ArgType, FixedType, Interface, Message};
-use fl_lex::is_name;
 
 /// Whether the enums in a type have at most 65,535 enumerators.
 #[cycle(enums)]
@@ -57,32 +56,24 @@ fn arguments_have_short_enums(arguments: &[ArgType]) -> bool
     true
 }
 
-/// Whether an image has room for a message.
-fn is_message_spellable(message: &Message) -> bool
-    ensures exact { result ≡ is_message_spellable (message_of message.now) }
-{
-    is_name(&message.name.bytes) && arguments_have_short_enums(&message.args)
-}
-
-/// Whether an image has room for these messages.
-fn are_messages_writable(messages: &[Message]) -> bool
-    ensures exact { result ≡ list_all is_message_spellable (map message_of messages.now) }
+/// Whether the enums in the types of these messages' arguments have.
+fn messages_have_short_enums(messages: &[Message]) -> bool
+    ensures exact { result ≡ list_all message_has_short_enums (map message_of messages.now) }
 {
     for message in messages {
-        if !is_message_spellable(message) {
+        if !arguments_have_short_enums(&message.args) {
             return false;
         }
     }
     true
 }
 
-/// Whether an image can spell an interface: its name and its messages' names are words of 1 to 64 bytes, and its enums have
-/// at most 65,535 enumerators.
+/// Whether an image can spell an interface: its enums have at most 65,535 enumerators.
 ///
 /// Every interface of a text is so, and every one that [`read_image`](crate::read_image) gave. One that a program puts together
-/// may have other names and longer enums: ask before [`write_image`](crate::write_image).
+/// may have longer enums: ask before [`write_image`](crate::write_image).
 pub fn is_writable(interface: &Interface) -> bool
     ensures exact { result ≡ is_writable (interface_of interface.now) }
 {
-    is_name(&interface.name.bytes) && are_messages_writable(&interface.messages)
+    messages_have_short_enums(&interface.messages)
 }

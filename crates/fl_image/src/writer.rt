@@ -280,11 +280,12 @@ fn version_of(plan: PlanNo) -> u64
 /// The image of a program: the bytes that spell its interface, its plan and its code. No other program has it, and
 /// [`read_image`](crate::read_image) gives this one back.
 ///
-/// The interface is one that an image can spell: one of a text or of an image is, and
+/// The interface's enums have room in an image: those of a text or of an image have, and
 /// [`is_writable`](crate::is_writable) tells it of any other.
 ///
 /// # Errors
 /// Out of memory (E99).
+#[tactic(auto, using(crate::proofs::Named::program_has))]
 pub fn write_image(alloc: Global, program: &Program) -> Result<Vec<u8>, AllocError>
     requires writable { is_writable (program_of program.now).interface ≡ true }
     ensures image { IfOk result (λ v. v.items ≡ image_of (program_of program.now).plan (program_of program.now).interface) }

@@ -3,7 +3,8 @@
 ghost use Rattle.std.specs.Prelude.{◌≡◌, map, IfOk};
 ghost use Rattle.fl_interface.specs.Interface.{type_of, arg_type_of, message_of, interface_of};
 
-use crate::interface::{ArgType, FixedType, Interface, Message, Word};
+use crate::interface::{ArgType, FixedType, Interface, Message};
+use crate::word::Word;
 use std::alloc::{AllocError, Global};
 
 impl Interface {
@@ -24,9 +25,8 @@ impl Interface {
 fn duplicate_word(alloc: Global, word: &Word) -> Result<Word, AllocError>
     ensures equal { IfOk result (λ copy. copy.bytes.items ≡ word.now.bytes.items) }
 {
-    Ok(Word {
-        bytes: word.bytes.to_vec(alloc)?,
-    })
+    let bytes = word.bytes.to_vec(alloc)?;
+    Ok(Word { bytes })
 }
 
 fn duplicate_messages(alloc: Global, messages: &[Message]) -> Result<Vec<Message>, AllocError>

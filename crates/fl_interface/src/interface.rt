@@ -6,6 +6,8 @@ ghost use Rattle.fl_interface.specs.Types.{message_of};
 ghost use Rattle.fl_interface.specs.Limits.{is_within_limits};
 ghost use Rattle.fl_interface.specs.Counts.{messages_words_fit};
 
+use crate::word::Word;
+
 /// A scalar type, by its name in the language, where all letters are small. `Bool` and `Char` take 1 byte,
 /// `Iref` takes 4, `Uintptr`, `Intptr`, `Size` and `Errval` take 8, each other one as many bits as its name
 /// says.
@@ -50,13 +52,6 @@ pub enum ArgType {
     Text(u32),
     /// A sized array of at most so many elements.
     Sized(u32, FixedType),
-}
-
-/// A name of the language: a letter or `_`, then letters, digits and `_`, at most 64 bytes.
-#[derive(Debug, Drop)]
-pub struct Word {
-    /// The name's bytes, in order.
-    pub bytes: Vec<u8>,
 }
 
 /// A message: its name and its arguments' types, in declared order.

@@ -2,6 +2,7 @@ pub mod Classes
 pub mod Cuts
 pub mod Items
 pub mod Lexing
+pub mod Names
 pub mod Numbers
 pub mod Outcomes
 pub mod Runs

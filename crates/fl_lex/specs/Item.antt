@@ -1,6 +1,6 @@
 -- A working file: what reading the beginning of a text finds, an item, or the flaw that stands there.
 use Rattle.std.specs.Prelude.{◌≡◌, ℕ, ◌<◌, ◌≤◌, List, [], ◌∷◌, take, drop, length, Option, Some, None, Result, Ok, Err}
-use Rattle.fl_lex.specs.Spelling.{class_of, Item, gap, token, Begins}
+use Rattle.fl_lex.specs.Spelling.{class_of, Item, gap, token, IsItem, Begins}
 use Rattle.fl_lex.specs.Outcome.{KindFits, Stands, no_token, open_comment, open_description, long_word, large_number}
 use Rattle.fl_lex.specs.declared.token.TokenKind.{TokenKind}
 use Rattle.fl_lex.specs.declared.item.LexItem.{LexItem}
@@ -22,6 +22,11 @@ item_of (Some kind) = token kind
 abbrev pub ItemFits : Item → List ℕ → Type 0
 ItemFits gap bytes = Unit {0}
 ItemFits (token kind) bytes = KindFits kind bytes
+
+-- these bytes are such an item, within the limits
+pub record IsRight (item : Item) (bytes : List ℕ) : Type 0 where
+  pub is_item : IsItem item bytes
+  pub fits : ItemFits item bytes
 
 -- the first bytes of the text, this many, are the item that the text begins with
 pub record Cuts (text : List ℕ) (item : Item) (count : ℕ) : Type 0 where

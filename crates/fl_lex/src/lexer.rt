@@ -3,7 +3,7 @@
 ghost use Rattle.std.specs.Prelude.{◌≡◌, ◌≤◌, ◌++◌, IfSome, IfOk, IfErr, OnOk, length, map, Some};
 ghost use Rattle.fl_lex.specs.Outcome.{Lexes, outcome_of, AreTokensIn};
 ghost use Rattle.fl_lex.specs.Spelling.{token_in};
-ghost use Rattle.fl_lex.specs.Item.{item_of};
+ghost use Rattle.fl_lex.specs.Item.{item_of, IsRight};
 ghost use Rattle.fl_lex.specs.declared.fault.LexFault.TheVariants.{Memory};
 ghost use Rattle.fl_lex.specs.Token.{tokens_of, token_of};
 
@@ -51,6 +51,7 @@ fn keep<'a>(
     bytes: &'a [u8],
     at: usize,
 ) -> Result<(), LexFault>
+    requires right { IsRight (item_of kind) bytes.now }
     ensures kept { OnOk result (map token_of items.new.items ≡ map token_of items.old.items ++ token_in at (item_of kind) bytes.now) }
     ensures full { IfErr result (λ fault. fault ≡ Memory) }
 {

@@ -1,19 +1,21 @@
 -- Calls under way whose fragments lie in rooms.
 use Rattle.std.proofs.Common.{◌≡◌, ℕ, ◌+◌, ◌<◌, ◌≤◌, true, false, List, [], ◌∷◌, ◌++◌, take, length, slice_set, Some, None, refl, sym, ◌∙◌, ap, subst, arith}
-use Rattle.std.specs.Prelude.{nat_lt, if◌then◌else◌, slice_get, Option}
-use Rattle.std.proofs.lemmas.Bool.{le-ltb, false≢true}
+use Rattle.std.specs.Prelude.{slice_get, Option}
+use Rattle.std.proofs.lemmas.Bool.{false≢true}
+use Rattle.std.proofs.lemmas.Option.{none-some}
 use Rattle.std.proofs.lemmas.List.{length-append, length-set, length-take-le, take_all, take_more_set, take-set-le}
 use Rattle.fl_base.specs.declared.fragment.Frag.{Frag}
-use Rattle.fl_base.specs.Control.{bare}
+use Rattle.fl_base.specs.Control.{bare, message_of}
 use Rattle.fl_interface.specs.Interface.{TheMessage}
 use Rattle.fl_interface.specs.Limits.{is_within_limits}
 use Rattle.fl_value_data.specs.Value.{Datum, TheCall}
 use Rattle.fl_value_data.specs.Fits.{fit_message}
 use Rattle.fl_layout.specs.Places.{count}
 use Rattle.fl_wire.specs.Payload.{frags_of}
-use Rattle.fl_wire.specs.Reading.{ReadsBack}
 use Rattle.fl_wire.proofs.Readings.{count_positive, length_frags}
+use Rattle.fl_wire.proofs.Decoding.{prefix_message}
 use Rattle.fl_compile.specs.Programs.{TheProgram}
+use Rattle.fl_compile_tape.specs.Frags.{HasFrags as FragsOfCall}
 use Rattle.fl_machine.specs.declared.intake.Fed.{Fed}
 use Rattle.fl_machine.specs.declared.intake.Fed.TheVariants.{Part}
 use Rattle.fl_machine.specs.declared.recv.PartialCall.{PartialCall}
@@ -83,16 +85,21 @@ named_message : (o : Option TheMessage) (ds : List Datum) → fit_message o ds �
 named_message None ds h = absurd (false≢true h)
 named_message (Some m) ds h = (m, refl)
 
--- what is read of them is that call
-pub read_whole : (p : TheProgram) (frags : List Frag) (found : Option TheCall) (c : TheCall) → is_within_limits p.interface ≡ true → ReadsBack p.plan p.interface frags found → HasFrags p c frags
-    → found ≡ Some c
-read_whole p frags found c within reads has =
+-- a call's fragments are at least one
+pub no_first : (p : TheProgram) (frags : List Frag) → None ≡ slice_get frags 0 → ((c : TheCall) × HasFrags p c frags) → ⊥
+no_first p [] none (c, has) = absurd (omega (arith, count_positive p.plan p.interface c, ap length has.frags_are, length_frags p.plan p.interface c))
+no_first p (f ∷ fs) none has = none-some f none
+
+-- they are of the message that the first one tells
+pub frags_told : (p : TheProgram) (frags : List Frag) (f : Frag) (msg : ℕ) (c : TheCall) → is_within_limits p.interface ≡ true → Some f ≡ slice_get frags 0 → msg ≡ message_of f.control → HasFrags p c frags
+    → FragsOfCall p msg frags c
+frags_told p frags f msg c within here told has =
     let n = count p.plan p.interface c in
     let (m, named) = named_message (slice_get p.interface.messages c.msg) c.args has.fits in
     let all : take n (frags_of p.plan p.interface c) ≡ frags_of p.plan p.interface c = take_all n (frags_of p.plan p.interface c) (omega (arith, length_frags p.plan p.interface c)) in
-    let test : nat_lt n n ≡ false = le-ltb n n (omega arith) in
-    reads c n has.fits (few_messages p.interface c.msg m within named) (count_positive p.plan p.interface c) (omega arith) (has.frags_are ∙ sym all)
-    ∙ ap (λ b. if b then None else Some c) test
+    let message : message_of f.control ≡ c.msg
+    = prefix_message p.plan p.interface c n frags f (omega arith) (has.frags_are ∙ sym all) (count_positive p.plan p.interface c) (few_messages p.interface c.msg m within named) here in
+    record { message = sym (told ∙ message); fits = has.fits; frags_are = has.frags_are }
 
 -- ---- the first fragment of a call that goes on
 

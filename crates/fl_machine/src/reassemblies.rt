@@ -12,6 +12,7 @@ use crate::recv::begin_straight;
 use crate::rooms::Rooms;
 use fl_base::Frag;
 use fl_compile::Program;
+use fl_compile_tape::ReadingRoom;
 use std::alloc::{AllocError, Global};
 use std::marker::Model;
 
@@ -23,6 +24,8 @@ pub(crate) struct ReassemblyPlaces {
     rooms: Rooms,
     // Where the numbers of one fragment are put: at most one a byte.
     numbers: [u64; 56],
+    // Where calls of several fragments are read.
+    reading: ReadingRoom,
 }
 
 /// Calls that are put together again from their fragments, at many places: each has a program, and of its call under way the
@@ -92,6 +95,7 @@ impl ReassemblyPlaces {
             alloc,
             &mut self.numbers,
             &mut self.rooms.block[start..end],
+            &mut self.reading,
             frag,
         )
     }
@@ -177,6 +181,7 @@ impl Reassemblies {
                 places: Vec::new(alloc),
                 rooms: Rooms::new(alloc),
                 numbers: [0; 56],
+                reading: ReadingRoom::new(alloc),
             },
         }
     }
@@ -212,7 +217,7 @@ impl Reassemblies {
 
     /// Takes a fragment at a place, whatever its epoch and the count that it tells. One that is the last of its call gives the call,
     /// which stays under way until [`Reassemblies::finish`]: so until then the fragment may as well not have come. Takes memory
-    /// for that call alone.
+    /// for that call, and, where it is the longest so far of several fragments, for reading it.
     ///
     /// # Errors
     /// The first fault of a fragment that can't follow those of the call under way, as of [`RecvRun::feed`](crate::RecvRun::feed);

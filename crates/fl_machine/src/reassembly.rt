@@ -15,8 +15,9 @@ use crate::intake::Fed;
 use crate::recv::{PartialCall, TapedCall, begin, look_on, whole};
 use fl_base::Frag;
 use fl_compile::Program;
+use fl_compile_tape::{ReadingRoom, call_of_frags};
 use fl_value_data::Call;
-use fl_wire::{WireFault, read_call_frags};
+use fl_wire::WireFault;
 use std::alloc::{AllocError, Global};
 use thiserror::Error;
 
@@ -111,17 +112,22 @@ fn keep(
     Ok(Taken::Part)
 }
 
-// The call whose fragments these are.
+// The call whose fragments these are, by its message's prepared code.
 #[inline(always)]
-fn read(alloc: Global, program: &Program, frags: &[Frag]) -> Result<Call, AllocError>
+fn read(
+    alloc: Global,
+    program: &Program,
+    frags: &[Frag],
+    reading: &mut ReadingRoom,
+) -> Result<Call, AllocError>
     requires whole { (call : TheCall) × HasFrags (program_of program.now) call frags.now }
     ensures call { IfOk result (λ call. (c : TheCall) → HasFrags (program_of program.now) c frags.now → call_of call ≡ c) }
 {
-    let interface = program.interface();
-    match read_call_frags(alloc, interface, program.plan(), frags)? {
-        Some(call) => Ok(call),
-        None => unreachable!(),
-    }
+    let Some(first) = frags.first() else {
+        unreachable!();
+    };
+    let msg = first.msg();
+    call_of_frags(alloc, program, msg, frags, reading)
 }
 
 // Takes the last fragment of the call under way.
@@ -131,6 +137,7 @@ fn take_last(
     program: &Program,
     begun: &PartialCall,
     room: &mut [Frag],
+    reading: &mut ReadingRoom,
     frag: &Frag,
 ) -> Result<Taken, TakeFault>
     requires under_way { IsUnderWay (program_of program.now) room.old (Some begun.now) }
@@ -143,7 +150,7 @@ fn take_last(
     let _plan = program.plan();
     let count = begun.fed();
     room[count] = frag.bare();
-    match read(alloc, program, &room[..count + 1]) {
+    match read(alloc, program, &room[..count + 1], reading) {
         Ok(call) => Ok(Taken::Whole(call)),
         Err(_) => Err(TakeFault::Memory),
     }
@@ -186,6 +193,7 @@ fn take_under(
     begun: &mut PartialCall,
     numbers: &mut [u64; 56],
     room: &mut [Frag],
+    reading: &mut ReadingRoom,
     frag: &Frag,
 ) -> Result<Taken, TakeFault>
     requires under_way { IsUnderWay (program_of program.now) room.old (Some begun.old) }
@@ -201,7 +209,7 @@ fn take_under(
         Ok(Fed::Part) => keep(program, begun, room, frag),
         Ok(Fed::Whole) => {
             *begun = before;
-            take_last(alloc, program, begun, room, frag)
+            take_last(alloc, program, begun, room, reading, frag)
         }
         Err(fault) => {
             *begun = before;
@@ -218,6 +226,7 @@ fn take_next(
     under: &mut Option<PartialCall>,
     numbers: &mut [u64; 56],
     room: &mut [Frag],
+    reading: &mut ReadingRoom,
     frag: &Frag,
 ) -> Result<Taken, TakeFault>
     requires some { IsSome under.old }
@@ -229,17 +238,19 @@ fn take_next(
     let Some(begun) = under else {
         unreachable!();
     };
-    take_under(alloc, program, begun, numbers, room, frag)
+    take_under(alloc, program, begun, numbers, room, reading, frag)
 }
 
 impl Assembly {
-    // Takes a fragment, in the place's room. Its numbers are put where those of any fragment may lie.
+    // Takes a fragment, in the place's room. Its numbers are put where those of any fragment may lie, and a whole call is read where
+    // any may be.
     #[inline(always)]
     pub(crate) fn take_on(
         &mut self,
         alloc: Global,
         numbers: &mut [u64; 56],
         room: &mut [Frag],
+        reading: &mut ReadingRoom,
         frag: &Frag,
     ) -> Result<Taken, TakeFault>
         requires under_way { IsUnderWay (program_of self.old.program) room.old self.old.begun }
@@ -250,7 +261,15 @@ impl Assembly {
             (reassembly_on self.old.program room.new self.new.begun) }
     {
         match self.begun {
-            Some(_) => take_next(alloc, &self.program, &mut self.begun, numbers, room, frag),
+            Some(_) => take_next(
+                alloc,
+                &self.program,
+                &mut self.begun,
+                numbers,
+                room,
+                reading,
+                frag,
+            ),
             None => take_begun(alloc, &self.program, &mut self.begun, numbers, room, frag),
         }
     }

@@ -8,29 +8,25 @@ ghost use Rattle.fl_model.specs.State.{State, start};
 ghost use Rattle.fl_model.specs.Step.{step};
 ghost use Rattle.fl_model.specs.Runs.{reached};
 ghost use Rattle.fl_model.specs.Sound.{Sound};
-ghost use Rattle.fl_model.specs.SoundOpenings.{OpeningsGoInOrder, MessagesAreDue, AnswersComeOnce};
+ghost use Rattle.fl_model.specs.SoundOpenings.{OpeningsGoInOrder};
 ghost use Rattle.fl_model.specs.SoundPlaces.{CoresStand, EndsStand, LinksArePaired, RingsHaveOneOwner};
-ghost use Rattle.fl_model.specs.SoundPlaces.{ServicesStand, SeatsAgree};
-ghost use Rattle.fl_model.specs.SoundRoutes.{RoutesLead, NumbersGoAlongRoutes, VerdictsFit, EndsAreBound};
-ghost use Rattle.fl_model.specs.SoundRoutes.{NumbersWereOpened, NumbersAreOnce};
-ghost use Rattle.fl_model.specs.SoundLabels.{LabelsKeepToTheirWays, WritesAreCounted, LabelsFollow};
-ghost use Rattle.fl_model.specs.SoundLabels.{NothingBeforeTheOpening};
+ghost use Rattle.fl_model.specs.SoundPlaces.{ServicesStand};
+ghost use Rattle.fl_model.specs.SoundRoutes.{RoutesLead};
+ghost use Rattle.fl_model.specs.SoundLabels.{LabelsKeepToTheirWays, WritesAreCounted};
 ghost use Rattle.fl_model.specs.SoundRings.{RingsCount, RingsFit};
 ghost use Rattle.fl_model.specs.Worlds.{WorldsAreSound, EverInOrder, EverFewWait, ListedHaveEnds};
 ghost use Rattle.fl_model.specs.Worlds.{WritesUnderstand, ShowsUnderstand, TurnsGiveTheNext, EverSound};
 ghost use Rattle.fl_model.specs.Worlds.{EverOnceBothWays, EverFits, EverHaveEnds, AskedCallsFit};
 ghost use Rattle.fl_model.specs.SoundCalls.{CallsFit, RulesSuit};
 ghost use Rattle.fl_model.specs.SoundLists.{FewRepliesWait, RepliesWaitWhereBusy, QueuesHaveRoom};
-ghost use Rattle.fl_model.specs.SoundLists.{OutboxesHaveRoom, BareUntilCoresAreSet, WaitsetsStand};
-ghost use Rattle.fl_model.specs.SoundLists.{ListedAreBound, PendingQueuesHold, PendingRingsWereLookedAt};
+ghost use Rattle.fl_model.specs.SoundLists.{OutboxesHaveRoom, BareUntilCoresAreSet};
 ghost use Rattle.fl_model.specs.Laws.{RingsCountInOrder, FewWaitAndOnlyWhereBusy, AllAccepted, PassedFalls};
 ghost use Rattle.fl_model.specs.Laws.{HandledIsCounted, HandledIsAPrefix, RefusalsChangeNothing, TablesGoOn};
 ghost use Rattle.fl_model.specs.Faults.{NoWireFaults, TablesFollowMessages};
 ghost use Rattle.fl_model.specs.Laws.{RunsAreSound, ChannelsAreOnce, PendingHasAFragment, TurnsUnderstand};
 ghost use Rattle.fl_model.specs.Laws.{ForwardsUnderstand, StepsAreSound, NumbersAreGivenOnce};
-ghost use Rattle.fl_model.specs.SoundLimits.{RoutesKeepToCores, NumbersAreOnceBothWays, CoresAreFew};
+ghost use Rattle.fl_model.specs.SoundLimits.{CoresAreFew};
 ghost use Rattle.fl_model.specs.SoundLimits.{InterfacesAreFew, ServicesAreFew, BindingsAreFew};
-ghost use Rattle.fl_model.specs.SoundEntries.{EntriesStand, EntriesAreDue, AnswersAreAwaited};
 
 // ---- Runs and sound states
 
@@ -233,12 +229,6 @@ pub fn law_steps_keep_bare()
     ensures kept { (s : State) (v : Event) → BareUntilCoresAreSet s → BareUntilCoresAreSet (step s v).state }
 {}
 
-/// Each step of a sound state keeps the cores: each core's table of circuits is its own and sound, with a link of the monitor for
-/// each of its links.
-pub fn law_steps_keep_cores()
-    ensures kept { (s : State) (v : Event) → Sound s → CoresStand (step s v).state }
-{}
-
 /// Each step keeps every link there both ways, over the two sides of one ring, and one owner for each side of a ring.
 pub fn law_steps_keep_links()
     ensures kept { (s : State) (v : Event) → CoresStand s → EndsStand s → LinksArePaired s → RingsHaveOneOwner s
@@ -257,105 +247,11 @@ pub fn law_steps_keep_ends()
     ensures kept { (s : State) (v : Event) → EndsStand s → EndsStand (step s v).state }
 {}
 
-/// Each step of a sound state keeps the seats: an end's channel is its dispatcher's channel for it, and no other's.
-pub fn law_steps_keep_seats()
-    ensures kept { (s : State) (v : Event) → Sound s → SeatsAgree (step s v).state }
-{}
-
-/// Each step of a sound state keeps where routes lead: over 2 to 16 different cores, from that of the client's dispatcher to that
-/// of the service's, where the server's end is once it is made.
-pub fn law_steps_keep_routes()
-    ensures kept { (s : State) (v : Event) → Sound s → RoutesLead (step s v).state }
-{}
-
-/// Each step of a sound state keeps routes to the cores of the world.
-pub fn law_steps_keep_routes_within()
-    ensures kept { (s : State) (v : Event) → Sound s → RoutesKeepToCores (step s v).state }
-{}
-
-/// Each step of a sound state keeps a circuit's numbers along its route: one on the first link, at most one on each, and these
-/// links are there.
-pub fn law_steps_keep_numbers()
-    ensures kept { (s : State) (v : Event) → Sound s → NumbersGoAlongRoutes (step s v).state }
-{}
-
-/// Each step of a sound state keeps that what an opening came to fits how far it came: a granted one had come to the last core,
-/// and no more cores wait for the answer than have a number.
-pub fn law_steps_keep_verdicts()
-    ensures kept { (s : State) (v : Event) → Sound s → VerdictsFit (step s v).state }
-{}
-
-/// Each step of a sound state keeps which ends are bound, and on which number: the server's once the opening was granted, the
-/// client's once the answer has come to it, both at once where there is no circuit.
-pub fn law_steps_keep_bound_ends()
-    ensures kept { (s : State) (v : Event) → Sound s → EndsAreBound (step s v).state }
-{}
-
-/// Each step of a sound state keeps that each number of a route was opened by the core from which its link goes.
-pub fn law_steps_keep_opened_numbers()
-    ensures kept { (s : State) (v : Event) → Sound s → NumbersWereOpened (step s v).state }
-{}
-
-/// Each step of a sound state keeps that a number is given once: where two routes have one number on the link from one core to
-/// the next, they are one binding's.
-pub fn law_steps_keep_numbers_once()
-    ensures kept { (s : State) (v : Event) → Sound s → NumbersAreOnce (step s v).state }
-{}
-
-/// Each step of a sound state keeps that a number means the same in both directions of its link: where one route has it on the
-/// way forth and another on the way back, they are one binding's.
-pub fn law_steps_keep_numbers_once_back()
-    ensures kept { (s : State) (v : Event) → Sound s → NumbersAreOnceBothWays (step s v).state }
-{}
-
 /// Each step keeps the openings of circuits that are under way on each link in order: those that one core has counted and
 /// the other hasn't.
 pub fn law_steps_keep_openings()
     ensures kept { (s : State) (v : Event) → CoresStand s → EndsStand s → LinksArePaired s → RingsHaveOneOwner s → OpeningsGoInOrder s
         → OpeningsGoInOrder (step s v).state }
-{}
-
-/// Each step of a sound state keeps the monitors' messages due: each that is under way is the one that is due for a binding,
-/// and stands where that is due.
-pub fn law_steps_keep_messages_due()
-    ensures kept { (s : State) (v : Event) → Sound s → MessagesAreDue (step s v).state }
-{}
-
-/// Each step of a sound state keeps that no two answers under way between two cores are for one circuit.
-pub fn law_steps_keep_answers_once()
-    ensures kept { (s : State) (v : Event) → Sound s → AnswersComeOnce (step s v).state }
-{}
-
-/// Each step of a sound state keeps each circuit's entries standing, as far as the circuit has come.
-pub fn law_steps_keep_entries()
-    ensures kept { (s : State) (v : Event) → Sound s → EntriesStand (step s v).state }
-{}
-
-/// Each step of a sound state keeps that no other entries stand than those that are due for a binding.
-pub fn law_steps_keep_entries_due()
-    ensures kept { (s : State) (v : Event) → Sound s → EntriesAreDue (step s v).state }
-{}
-
-/// Each step of a sound state keeps that the entries of cores that wait for an answer are not marked as answered.
-pub fn law_steps_keep_answers_awaited()
-    ensures kept { (s : State) (v : Event) → Sound s → AnswersAreAwaited (step s v).state }
-{}
-
-/// Each step of a sound state keeps labels on their ways: on a link stand monitors' messages, acknowledgements, and fragments
-/// of ends whose way goes over it; on a binding's ring and in a queue the fragments of one end alone.
-pub fn law_steps_keep_labels_on_their_ways()
-    ensures kept { (s : State) (v : Event) → Sound s → LabelsKeepToTheirWays (step s v).state }
-{}
-
-/// Each step of a sound state keeps labels in order: what has passed one station of a direction and not the next stands
-/// between the two, each fragment once, and numbers passed don't rise.
-pub fn law_steps_keep_labels_in_order()
-    ensures kept { (s : State) (v : Event) → Sound s → LabelsFollow (step s v).state }
-{}
-
-/// Each step of a sound state keeps that of a circuit that isn't open nothing was ever written.
-pub fn law_steps_keep_the_unopened_unwritten()
-    ensures kept { (s : State) (v : Event) → Sound s → NothingBeforeTheOpening (step s v).state }
 {}
 
 /// Each step keeps the counts of all writes, where ends stand and routes lead: all calls of an end but the last are written,
@@ -369,19 +265,6 @@ pub fn law_steps_keep_writes_counted()
 /// ring holds.
 pub fn law_steps_keep_counts()
     ensures kept { (s : State) (v : Event) → RingsCount s → RingsFit s → RingsCount (step s v).state × RingsFit (step s v).state }
-{}
-
-/// Each step of a sound state keeps the waitsets: no channel is twice in a dispatcher's lists, each there is an end's, and no
-/// dispatcher has more than 1,024 ends.
-pub fn law_steps_keep_waitsets()
-    ensures kept { (s : State) (v : Event) → Sound s → WaitsetsStand (step s v).state }
-{}
-
-/// Each step of a sound state keeps what is said of registered channels: the end of each is bound and of the kind of its list,
-/// a pending channel's queue holds something, and a pending channel's ring was looked at and has a call's fragment first.
-pub fn law_steps_keep_listed()
-    ensures kept { (s : State) (v : Event) → Sound s
-        → ListedAreBound (step s v).state × PendingQueuesHold (step s v).state × PendingRingsWereLookedAt (step s v).state }
 {}
 
 /// Each step keeps what is said of replies that wait, where ends stand and routes lead: at most 16 wait at an end, and they

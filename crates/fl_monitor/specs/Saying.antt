@@ -19,10 +19,6 @@ pub record Says (f : Frag) (m : MonitorMessage) : Type 0 where
   pub widths : HasWidths m
   pub means : Means One intermon (f ∷ []) (call_for m) 0
 
--- the fragment says some message
-abbrev pub SaysSome : Frag → Type 0
-SaysSome f = (m : MonitorMessage) × Says f m
-
 -- why a fragment isn't read: it says no message, and this is its first fault
 abbrev pub Refuses : Frag → WireFault → Type 0
 Refuses f Memory = ⊥

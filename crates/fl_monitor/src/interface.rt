@@ -1,6 +1,7 @@
 //! The monitors' interface.
 
-ghost use Rattle.std.specs.Prelude.{◌≡◌, map, IfOk};
+ghost use Rattle.std.specs.Prelude.{◌≡◌, true, map, IfOk};
+ghost use Rattle.fl_lex.specs.Words.{is_name};
 ghost use Rattle.fl_interface.specs.Interface.{interface_of, message_of, arg_type_of, fixed, sized, scalar as scalar_type};
 ghost use Rattle.fl_interface.specs.declared.interface.Scalar.TheVariants.{Uint8};
 ghost use Rattle.fl_monitor.specs.Intermon.{intermon};
@@ -10,6 +11,7 @@ use std::alloc::{AllocError, Global};
 
 // A name.
 fn word(alloc: Global, text: &[u8]) -> Result<Word, AllocError>
+    requires { is_name text.now ≡ true }
     ensures word { IfOk result (λ w. w.bytes.items ≡ text.now) }
 {
     let bytes = Vec::from_slice(alloc, text)?;
@@ -32,6 +34,7 @@ fn route() -> ArgType
 
 // A message of that name with these arguments.
 fn message(alloc: Global, name: &[u8], args: Vec<ArgType>) -> Result<Message, AllocError>
+    requires { is_name name.now ≡ true }
     ensures message { IfOk result (λ m. message_of m ≡ record { name = name.now; args = map arg_type_of args.items }) }
 {
     let name = word(alloc, name)?;

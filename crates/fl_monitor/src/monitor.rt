@@ -90,7 +90,7 @@ impl Monitor {
     }
 
     /// What holds of every monitor. It does nothing.
-    pub fn sound(&self)
+    pub fn law_sound(&self)
         ensures outboxes { HasOutboxes self.now }
     {
         let _outboxes = &self.outboxes;

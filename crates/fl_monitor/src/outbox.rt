@@ -59,7 +59,7 @@ impl Outbox {
     }
 
     /// What is known of an outbox at any time. It does nothing.
-    pub fn sound(&self)
+    pub fn law_sound(&self)
         ensures sound { IsOutbox self.now }
     {
         let _waiting = self.frags.len();

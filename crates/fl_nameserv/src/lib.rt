@@ -23,7 +23,7 @@ mod registration;
 mod registrations;
 
 pub use fault::NameFault;
-pub use law::{each_is_found, found_is_registered};
+pub use law::{law_each_is_found, law_found_is_registered};
 pub use names::Names;
 pub use registration::{Registration, Service};
 pub use registrations::Registrations;

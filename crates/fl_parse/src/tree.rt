@@ -1,10 +1,14 @@
 //! The tree that the grammar gives an interface's text. Names and numbers keep where they stand.
 
-/// A word, and where it begins.
+ghost use Rattle.std.specs.Prelude.{◌≡◌, true};
+ghost use Rattle.fl_lex.specs.Words.{is_name};
+
+/// A word of at most 64 bytes, and where it begins.
 #[derive(Clone, Copy, Debug)]
 pub struct Name<'a> {
     pub text: &'a [u8],
     pub at: usize,
+    pub ghost named: { is_name text.now ≡ true },
 }
 
 /// A number, and where it begins.

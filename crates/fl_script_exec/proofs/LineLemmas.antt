@@ -66,7 +66,7 @@ pub told_line : {M T E : Type 0} (shows : M → State → Type 0) (old new : Rus
     (told : Result RustEvent LineFault) (result : Result T E) → LineTells (names_of old.names) o told
     → OnOk result (AnswersEvent shows old new before after told) → (told ≡ Err Memory → OnOk result ⊥)
     → OnOk result (Answers shows old new before after (λ s. Does s (a_line (line_with o))))
-told_line shows old new before after o told result (inl bad) ok memory = on_ok_weaker result (λ none. absurd none) (memory bad)
+told_line shows old new before after o told result (inl bad) ok memory = on_ok_weaker result (λ none. absurd none) (memory bad.0)
 told_line shows old new before after o told result (inr h) ok memory =
     on_ok_weaker result
     (λ f. λ s at. (

@@ -83,6 +83,10 @@ CallAsks n e text asked =
     ((name : List ℕ) × (args : List Datum) × SpellsCall text name args × (asked ≡ asks_call n e name args))
     ⊎ (((name : List ℕ) (args : List Datum) → SpellsCall text name args → ⊥) × (asked ≡ refuses 90))
 
+-- a call's text asks an event: nothing refuses it but the machine
+abbrev pub AsksCall : Names → EndName → List ℕ → Type 0
+AsksCall n e text = (one : Event) × CallAsks n e text (asks one n)
+
 -- a command asks this of the machine, by these names
 abbrev pub Asks : Names → Command → Asked → Type 0
 Asks n (cores k) asked = asked ≡ asks (set_cores k) n

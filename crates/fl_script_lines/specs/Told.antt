@@ -6,7 +6,7 @@ use Rattle.fl_script_lines.specs.declared.event.Naming.TheVariants.{Nothing, Dis
 use Rattle.fl_script_lines.specs.declared.fault.LineFault.{LineFault}
 use Rattle.fl_script_lines.specs.declared.fault.LineFault.TheVariants.{Memory}
 use Rattle.fl_script_lines.specs.declared.names.ScriptNames.{ScriptNames as RustNames}
-use Rattle.fl_script_lines.specs.Asked.{Asked, refuses, asks, Asks}
+use Rattle.fl_script_lines.specs.Asked.{Asked, refuses, asks, Asks, AsksCall}
 use Rattle.fl_script_lines.specs.Commands.{Command, call}
 use Rattle.fl_model.specs.Views.{id_of, event_of}
 use Rattle.fl_script_lines.specs.Faults.{number_of}
@@ -42,14 +42,14 @@ abbrev pub Tells : Names → Result RustAsked LineFault → Asked → Type 0
 Tells n (Ok a) asked = asks (event_of a.event) (named n a.naming) ≡ asked
 Tells n (Err fault) asked = refuses (number_of fault) ≡ asked
 
--- memory is asked for where a call's text is read, and for no other command
-abbrev pub AsksForMemory : Command → Type 0
-AsksForMemory (call e text) = Unit {0}
-AsksForMemory c = ⊥
+-- memory is asked for where a call's text is read, and for no other command; it is wanting only where the text asks an event
+abbrev pub AsksForMemory : Names → Command → Type 0
+AsksForMemory n (call e text) = AsksCall n e text
+AsksForMemory n c = ⊥
 
--- memory ran out, or the command asks something, and what a function returned tells it
+-- the command asks something, and what a function returned tells it, or memory ran out
 abbrev pub AsksAs : Names → Command → Result RustAsked LineFault → Type 0
-AsksAs n c result = ((result ≡ Err Memory) × AsksForMemory c) ⊎ ((asked : Asked) × Asks n c asked × Tells n result asked)
+AsksAs n c result = ((result ≡ Err Memory) × AsksForMemory n c) ⊎ ((asked : Asked) × Asks n c asked × Tells n result asked)
 
 -- ---- the law
 

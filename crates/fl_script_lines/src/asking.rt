@@ -1,6 +1,6 @@
 //! What a line asks that gives no name, told from its words at once: most lines of a script are such.
 
-ghost use Rattle.std.specs.Prelude.{◌≡◌, map};
+ghost use Rattle.std.specs.Prelude.{◌≡◌, Err, map};
 ghost use Rattle.fl_value_data.specs.Value.{datum_of};
 ghost use Rattle.fl_script_lines.specs.Asked.{asks_call};
 ghost use Rattle.fl_script_lines.specs.Lines.{TellsEvent, LineTells, CallTells, TellsEnd, told_as};
@@ -16,7 +16,7 @@ use crate::reader::{end_name, one_end, one_name, two_numbers};
 use crate::word::next_word;
 use fl_base::EndId;
 use fl_model::DispatcherId;
-use fl_value::{ValueFault, read_spoken, skip_blanks};
+use fl_value::{ValueFault, read_spoken, skip_blanks, spoken_name};
 use fl_value_data::{Call, Value};
 
 impl ScriptNames {
@@ -44,7 +44,7 @@ impl ScriptNames {
     /// message. Its arguments stand in the memory of `room`, whose own values are dropped.
     ///
     /// # Errors
-    /// The text is none (E90), the name unknown (E92), or there is no such message (E41). Out of memory (E99).
+    /// The text is none (E90), the name unknown (E92), or there is no such message (E41); else out of memory (E99).
     #[inline(always)]
     pub fn call_at(
         &self,
@@ -57,14 +57,30 @@ impl ScriptNames {
         match read_spoken(self.alloc, text, room) {
             Ok((name, args)) => self.spoken_call(end, name, args),
             Err(ValueFault::NotACall) => Err(LineFault::NotACall),
-            Err(_) => Err(LineFault::Memory),
+            Err(_) => Err(self.without_values(end, text)),
+        }
+    }
+
+    // What refuses a call for whose values memory ran out: the first refusal that its text and the names have, else the want of
+    // memory.
+    #[cold]
+    #[inline(never)]
+    fn without_values(&self, end: EndName<'_>, text: &[u8]) -> LineFault
+        ensures tells { CallTells (names_of self.now) (end_name_of end.entry) text.now (Err result) }
+    {
+        let Some(name) = spoken_name(text) else {
+            return LineFault::NotACall;
+        };
+        match self.spoken_call(end, name, Vec::new(self.alloc)) {
+            Ok(_asked) => LineFault::Memory,
+            Err(fault) => fault,
         }
     }
 
     /// The call of a line, from what stands behind its first word. `room` is as for [`ScriptNames::call_at`].
     ///
     /// # Errors
-    /// It is no such line, or no call (E90); the name is unknown (E92); there is no such message (E41). Out of memory (E99).
+    /// It is no such line, or no call (E90); the name is unknown (E92); there is no such message (E41); else out of memory (E99).
     #[inline(always)]
     pub fn call_line(&self, rest: &[u8], room: Vec<Value>) -> Result<(EndId, Call), LineFault>
         ensures tells { LineTells (names_of self.now) (command_by Verb.Call rest.now) (told_as a_call result) }

@@ -2,3 +2,4 @@ pub mod Spreads
 pub mod StepsPut
 pub mod Stacks
 pub mod Plain
+pub mod TakesBack

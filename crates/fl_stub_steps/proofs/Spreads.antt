@@ -12,14 +12,14 @@ use Rattle.fl_stub_steps.specs.Spreading.{Packing, Packer, nothing_packed, numbe
 use Rattle.fl_stub_steps.specs.Spreading.{Spreader, spread_of, copied, padded, aligned, repeated, length_at, move_spread, piece_spread, block_spread, spread_first, SpreadsPacked}
 
 -- a packed tape is spread as the bytes move
-record Carried (f : Spreader) (p : Packing) (m n : StubMoment) : Type 0 where
+pub record Carried (f : Spreader) (p : Packing) (m n : StubMoment) : Type 0 where
   pub tape : p.tape ≡ n.tape
   pub given : List ℕ
   pub bytes : m.bytes ≡ given ++ n.bytes
   pub at : n.at ≡ m.at + length given
   pub moves : (before more : List ℕ) → length before ≡ m.at → f (spread_of before (p.bytes ++ more)) ≡ spread_of (before ++ given) more
 
-abbrev Carries : Spreader → Packer → (StubMoment → StubMoment → Type 0) → Type 0
+abbrev pub Carries : Spreader → Packer → (StubMoment → StubMoment → Type 0) → Type 0
 Carries f p R = (m n : StubMoment) → R m n → Carried f (p m.tape) m n
 
 carried_then : (f g : Spreader) (p : Packing) (q : Packer) (m l n : StubMoment) → Carried f p m l → Carried g (q l.tape) l n → Carried (λ x. g (f x)) (then_packed p q) m n
@@ -145,7 +145,7 @@ mutual
             ap (λ (z : ℕ). repeated (block_spread b) z (copied 8 start)) (length_told y rest more small) ∙ all.moves before more long;
       }
 
-  block_carries : (column : Column) (b : Block) → block_fits column b ≡ true → Carries (block_spread b) (block_packed b) (BlockTurns b)
+  pub block_carries : (column : Column) (b : Block) → block_fits column b ≡ true → Carries (block_spread b) (block_packed b) (BlockTurns b)
   block_carries column finished fits m n e = carried_same m n e
   block_carries column (next p b) fits m n (l, first, more) =
       let has = and_parts (piece_fits column p) (block_fits column b) fits in

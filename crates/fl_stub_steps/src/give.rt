@@ -37,7 +37,11 @@ fn copy_few<'t>(count: usize, tape: &'t [u8], out: &mut Vec<u8>) -> Result<&'t [
 
 // As `copy_any`. Counts that are common are told apart first.
 #[inline(always)]
-fn copy<'t>(count: usize, tape: &'t [u8], out: &mut Vec<u8>) -> Result<&'t [u8], AllocError>
+pub(crate) fn copy<'t>(
+    count: usize,
+    tape: &'t [u8],
+    out: &mut Vec<u8>,
+) -> Result<&'t [u8], AllocError>
     ensures copied { IfOk result (λ left. spread_of out.new.items left.now
         ≡ copied count (spread_of out.old.items tape.now)) }
 {
@@ -46,6 +50,9 @@ fn copy<'t>(count: usize, tape: &'t [u8], out: &mut Vec<u8>) -> Result<&'t [u8],
         2 => copy_few(2, tape, out),
         4 => copy_few(4, tape, out),
         8 => copy_few(8, tape, out),
+        9 => copy_few(9, tape, out),
+        10 => copy_few(10, tape, out),
+        12 => copy_few(12, tape, out),
         16 => copy_few(16, tape, out),
         _ => copy_any(count, tape, out),
     }
@@ -99,7 +106,7 @@ fn align(out: &mut Vec<u8>) -> Result<(), AllocError>
 
 // The number that the next 8 bytes are; 0 where there are fewer.
 #[inline(always)]
-fn length_at(tape: &[u8]) -> u64
+pub(crate) fn length_at(tape: &[u8]) -> u64
     ensures { result ≡ length_of tape.now }
 {
     if tape.len() < 8 {
@@ -111,7 +118,7 @@ fn length_at(tape: &[u8]) -> u64
 }
 
 // So many bytes of the tape, so often.
-fn copy_each<'t>(
+pub(crate) fn copy_each<'t>(
     bytes: usize,
     turns: u64,
     tape: &'t [u8],
@@ -232,15 +239,16 @@ fn without_align(steps: &[StubStep]) -> &[StubStep]
 }
 
 impl PreparedCode {
-    /// Whether the code puts nothing between a tape's bytes: so the tape is the payload. Zeros up to a multiple of 8 before
-    /// the first byte are none.
+    /// Whether it is seen that the code puts nothing between a tape's bytes: then the tape is the payload. Zeros up to a
+    /// multiple of 8 before the first byte are none. Of some such code it isn't seen.
     pub fn is_plain(&self) -> bool
         ensures plain { IsTrue result → IsPlain (steps_in self.now) }
     {
         are_copies(without_align(&self.steps))
     }
 
-    /// Appends the bytes that the code makes of a packed tape. A tape that is too short gives what its bytes give.
+    /// Appends the bytes that the code makes of a packed tape, to an empty list: behind other bytes, zeros up to a multiple
+    /// of 8 count those, too. A tape that is too short gives what its bytes give.
     ///
     /// # Errors
     /// Out of memory (E99), and nothing else. Nothing is known of what stands there then.

@@ -7,14 +7,16 @@
 //! - `step.rt`: `StubStep`, `PreparedCode`
 //! - `preparing.rt`: the steps of code
 //! - `give.rt`: the bytes that steps give
-//! - `law.rt`: what code makes of packed tapes
+//! - `take.rt`: the packed tape that steps take back from a payload
+//! - `law.rt`: what code makes of packed tapes, and that steps take them back
 #![tactic(auto)]
 
 mod give;
 mod law;
 mod preparing;
 mod step;
+mod take;
 
-pub use law::law_spreads_packed;
+pub use law::{law_spreads_packed, law_takes_back};
 pub use preparing::prepare;
 pub use step::PreparedCode;

@@ -197,7 +197,7 @@ fn put(alloc: Global, stack: &mut Vec<Vec<StubStep>>, op: Op) -> Result<(), Allo
     }
 }
 
-/// The code as larger steps. It takes the memory of as many steps as the code has instructions, at most.
+/// The code as larger steps: at most as many as it has instructions, which no clause says.
 ///
 /// # Errors
 /// Out of memory (E99), and nothing else.

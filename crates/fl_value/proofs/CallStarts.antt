@@ -1,11 +1,10 @@
 -- Memory is wanting only behind what a call's text begins with.
-use Rattle.std.proofs.Common.{◌≡◌, ◌++◌, ℕ, List, true, refl, Result, Ok, Err}
+use Rattle.std.proofs.Common.{◌≡◌, ◌++◌, ℕ, List, true, Result, Ok, Err}
 use Rattle.std.specs.Prelude.{IfErr}
-use Rattle.fl_value_data.specs.Value.{Datum}
 use Rattle.fl_lex.specs.Words.{is_name}
 use Rattle.fl_value.specs.declared.fault.ValueFault.{ValueFault}
 use Rattle.fl_value.specs.declared.fault.ValueFault.TheVariants.{NotACall, NoSuchMessage, DoesNotFit, Memory}
-use Rattle.fl_value.specs.CallText.{Blanks, Token, a_mark, SpellsCall, BeginsCall}
+use Rattle.fl_value.specs.CallText.{Blanks, Token, a_mark, BeginsCall}
 use Rattle.fl_value.specs.Fault.{WantsMemory}
 
 pub begins : (bytes start name after inside : List ℕ) → Blanks bytes start → is_name name ≡ true → start ≡ name ++ after → Token (a_mark 40) after inside → BeginsCall bytes
@@ -19,9 +18,6 @@ begins bytes start name after inside before word named opens = record {
   named = named;
   opens = opens;
 }
-
-pub begins_spelled : (bytes name : List ℕ) (values : List Datum) → SpellsCall bytes name values → BeginsCall bytes
-begins_spelled bytes name values s = begins bytes s.start name s.after s.inside s.before s.word s.named s.opens
 
 pub wants : (e : ValueFault) (P : Type 0) → P → WantsMemory e P
 wants NotACall P p = tt

@@ -7,4 +7,6 @@ pub mod Prints
 pub mod Begun
 pub mod CallStarts
 pub mod Round
+pub mod Resolved
 pub mod Spans
+pub mod Scanned

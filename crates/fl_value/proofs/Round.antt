@@ -8,7 +8,10 @@ use Rattle.std.specs.Cmp.{first_so, second_so}
 use Rattle.std.proofs.lemmas.Bool.{ltb-true, ltb-false, lt-ltb, leb-true, false≢true, and_parts, cond-true}
 use Rattle.fl_interface.specs.declared.interface.Scalar.{Scalar}
 use Rattle.fl_interface.specs.declared.interface.Scalar.TheVariants.{Uint8, Int8, Bool as BoolType, Char, Uint16, Int16, Uint32, Int32, Iref, Uint64, Int64, Uintptr, Intptr, Size, Errval}
-use Rattle.fl_interface.specs.Interface.{TheType, scalar, enumeration, structure, array, TheTypes, no_more, field, TheArgType, fixed, text, sized, TheMessage, TheInterface}
+use Rattle.fl_interface.specs.Interface.{TheType, scalar, enumeration, structure, array, TheTypes, no_more, field, TheArgType, fixed, text, sized, TheMessage, TheInterface, message_of, interface_of}
+use Rattle.fl_interface.specs.declared.interface.Interface.{Interface}
+use Rattle.fl_interface.specs.declared.interface.Message.{Message}
+use Rattle.fl_lex.specs.Words.{is_name}
 use Rattle.fl_interface.specs.Limits.{is_type_within, is_argument_within, are_arguments_within, is_message_within, are_messages_within, are_distinct}
 use Rattle.fl_interface.specs.Counts.{words_fit, all_words_fit, argument_words_fit}
 use Rattle.fl_interface.specs.Depth.{depth_of as type_depth, deepest}
@@ -17,11 +20,10 @@ use Rattle.fl_value_data.specs.Value.{Datum, number, string, elements, fields, D
 use Rattle.fl_value_data.specs.declared.value.Call.{Call}
 use Rattle.fl_value.specs.declared.fault.ValueFault.{ValueFault}
 use Rattle.fl_value.specs.declared.fault.ValueFault.TheVariants.{NotACall, NoSuchMessage, DoesNotFit, Memory}
-use Rattle.fl_value_data.specs.Fits.{least_above, how_many_below, is_scalar_value, is_enumerator, count_of, has_type, have_types, all_have_type, is_text_byte, is_argument, are_arguments, fit_message}
+use Rattle.fl_value_data.specs.Fits.{fits_of, least_above, how_many_below, is_scalar_value, is_enumerator, count_of, has_type, have_types, all_have_type, is_text_byte, is_argument, are_arguments, fit_message}
 use Rattle.fl_value.specs.Printed.{is_short, is_printable, are_printable, printed_call, HasText}
 use Rattle.fl_value.specs.CallText.{SpellsCall, depth_of, greatest_depth}
-use Rattle.fl_value.specs.Resolve.{named_from, where_fitting, resolved_at, resolved, ComesTo, Answers, AnswersUnlessMemory}
-use Rattle.fl_value.specs.Fault.{Refuses}
+use Rattle.fl_value.specs.Resolve.{named_from, where_fitting, resolved_at, resolved, ComesTo, ReadsAs, Answers, AnswersUnlessMemory}
 use Rattle.fl_value.proofs.Prints.{call_reads}
 use Rattle.fl_value.proofs.Words.{call_once}
 
@@ -237,6 +239,18 @@ call_comes_back i m c h =
     let f : Bool → Result TheCall ValueFault = λ b. cond b (where_fitting i c) (Err NoSuchMessage) in
     (m.name, c.args, call_reads m.name c.args h.word (call_printable i m c h) shallow, ap (resolved_at i c.args) named ∙ ap f few ∙ fitting)
 
+-- the names of an interface in memory are words
+words_named : (ms : List Message) (n : ℕ) (m : TheMessage) → slice_get (map message_of ms) n ≡ Some m → is_name m.name ≡ true
+words_named [] n m h = absurd (none_some m h)
+words_named (x ∷ ms) zero m h = subst (λ (y : TheMessage). is_name y.name ≡ true) (some_same (message_of x) m h) x.name.named
+words_named (x ∷ ms) (suc n) m h = words_named ms n m h
+
+pub fitting_comes_back : (i : Interface) (m : TheMessage) (c : TheCall) → fits_of (interface_of i) c ≡ true → slice_get (interface_of i).messages c.msg ≡ Some m
+    → ComesTo (interface_of i) (printed_call m.name c.args) (Ok c)
+fitting_comes_back i m c fits message =
+    call_comes_back (interface_of i) m c
+    (record { within = i.within; counted = i.counted; fits = fits; message = message; word = words_named i.messages.items c.msg m message })
+
 same_answer : (i : TheInterface) (bytes : List ℕ) (a b : Result TheCall ValueFault) → ComesTo i bytes a → ComesTo i bytes b → b ≡ a
 same_answer i bytes a b (name, values, s, e) (other, others, r, f) =
     let (names, lists) = call_once bytes name other values others s r in
@@ -249,8 +263,17 @@ only_resolved i bytes name values s (Err NoSuchMessage) h answer k = same_answer
 only_resolved i bytes name values s (Err DoesNotFit) h answer k = same_answer i bytes (Err DoesNotFit) answer (name, values, s, h) k
 only_resolved i bytes name values s (Err Memory) h answer k = tt
 
-pub only_refused : (i : TheInterface) (bytes : List ℕ) (e : ValueFault) → Refuses e ((name : List ℕ) (values : List Datum) → SpellsCall bytes name values → ⊥) → (answer : Result TheCall ValueFault) → ComesTo i bytes answer → AnswersUnlessMemory (Err e) answer
-only_refused i bytes NotACall h answer (name, values, s, e) = absurd (h name values s)
-only_refused i bytes NoSuchMessage h answer k = absurd h
-only_refused i bytes DoesNotFit h answer k = absurd h
-only_refused i bytes Memory h answer k = tt
+-- a call of a message that the interface has is never refused for its name
+fitting_by : (b : Bool) (c : TheCall) → cond b (Ok c) (Err DoesNotFit) ≡ Err NoSuchMessage → ⊥
+fitting_by true c e = absurd (cc)
+fitting_by false c e = absurd (cc)
+
+pub fitting_known : (i : TheInterface) (c : TheCall) → where_fitting i c ≡ Err NoSuchMessage → ⊥
+fitting_known i c e = fitting_by (fits_of i c) c e
+
+-- a text that is no call of the interface comes to nothing else
+pub only_read : (i : TheInterface) (bytes : List ℕ) (e : ValueFault) → ReadsAs i bytes (Err e) → (answer : Result TheCall ValueFault) → ComesTo i bytes answer → AnswersUnlessMemory (Err e) answer
+only_read i bytes NotACall h answer (name, values, s, e) = absurd (h name values s)
+only_read i bytes NoSuchMessage h answer k = same_answer i bytes (Err NoSuchMessage) answer h k
+only_read i bytes DoesNotFit h answer k = same_answer i bytes (Err DoesNotFit) answer h k
+only_read i bytes Memory h answer k = tt

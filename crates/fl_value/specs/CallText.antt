@@ -143,6 +143,10 @@ pub record BeginsCall (bytes : List ℕ) : Type 0 where
   pub named : start ≡ name ++ after
   pub opens : Token (a_mark 40) after inside
 
+-- the bytes spell a call
+abbrev pub IsCall : List ℕ → Type 0
+IsCall bytes = (name : List ℕ) × (values : List Datum) × SpellsCall bytes name values
+
 -- a mark that ends a list of values
 abbrev pub is_close : ℕ → Bool
 is_close b = (b == 41) || (b == 93) || (b == 125)

@@ -4,7 +4,8 @@ use Rattle.std.specs.Prelude.{List, [], ◌∷◌, ◌++◌, Ok, Some, slice_get
 use Rattle.std.specs.List.{flat_map, list_all}
 use Rattle.std.specs.Char.{digit_char}
 use Rattle.std.specs.Fmt.{signed_decimal}
-use Rattle.fl_interface.specs.Interface.{TheMessage, TheInterface}
+use Rattle.fl_interface.specs.declared.interface.Interface.{Interface}
+use Rattle.fl_interface.specs.Interface.{TheMessage, TheInterface, interface_of}
 use Rattle.fl_interface.specs.Limits.{is_within_limits}
 use Rattle.fl_interface.specs.Counts.{interface_words_fit}
 use Rattle.fl_lex.specs.Words.{is_name}
@@ -91,3 +92,8 @@ PrintedReads = (name : List ℕ) (values : List Datum) → is_name name ≡ true
 -- what is printed of a call that an interface prints is that call there
 abbrev pub PrintedCallReads : Type 0
 PrintedCallReads = (i : TheInterface) (m : TheMessage) (c : TheCall) → HasText i m c → ComesTo i (printed_call m.name c.args) (Ok c)
+
+-- each interface in memory prints every call that fits it, so that it is that call there
+abbrev pub FittingCallReads : Type 0
+FittingCallReads = (i : Interface) (m : TheMessage) (c : TheCall) → fits_of (interface_of i) c ≡ true → slice_get (interface_of i).messages c.msg ≡ Some m
+    → ComesTo (interface_of i) (printed_call m.name c.args) (Ok c)

@@ -26,6 +26,14 @@ resolved_at i values (Some k) = if nat_lt k 65536 then where_fitting i (record {
 abbrev pub resolved : TheInterface → List ℕ → List Datum → Result TheCall ValueFault
 resolved i name values = resolved_at i values (named_from name i.messages 0)
 
+-- the number of a message of this name, as `resolved` finds it
+abbrev pub number_below : Option ℕ → Option ℕ
+number_below None = None
+number_below (Some k) = if nat_lt k 65536 then Some k else None
+
+abbrev pub message_number : TheInterface → List ℕ → Option ℕ
+message_number i name = number_below (named_from name i.messages 0)
+
 -- what a function returned, with calls as contracts see them
 abbrev pub Answers : Result Call ValueFault → Result TheCall ValueFault → Type 0
 Answers (Ok c) answer = answer ≡ Ok (call_of c)
@@ -34,6 +42,10 @@ Answers (Err e) answer = answer ≡ Err e
 -- the bytes spell a name and values that come to this
 abbrev pub ComesTo : TheInterface → List ℕ → Result TheCall ValueFault → Type 0
 ComesTo i bytes answer = (name : List ℕ) × (values : List Datum) × SpellsCall bytes name values × (resolved i name values ≡ answer)
+
+-- the bytes spell a call of a message of the interface
+abbrev pub IsOfMessage : TheInterface → List ℕ → Type 0
+IsOfMessage i bytes = (name : List ℕ) × (values : List Datum) × SpellsCall bytes name values × (resolved i name values ≡ Err NoSuchMessage → ⊥)
 
 -- what the bytes are at the interface: the call that they spell, no call's text, or a call that
 -- the interface refuses; unless memory runs out

@@ -1,16 +1,17 @@
 //! Calls from their text, and which call of an interface a text is.
 
-ghost use Rattle.std.specs.Prelude.{Result, ◌≡◌, ℕ, ◌++◌, List, map, IfOk, IfErr, IfSome, IfNone, true};
+ghost use Rattle.std.specs.Prelude.{Result, Err, ◌≡◌, ℕ, ◌++◌, List, map, option_map, IfOk, IfErr, IfSome, IfNone, true};
 ghost use Rattle.fl_interface.specs.Interface.{interface_of, message_of};
 ghost use Rattle.fl_value_data.specs.Value.{Datum, TheCall, datum_of};
 ghost use Rattle.fl_lex.specs.Words.{is_word_byte, is_name};
-ghost use Rattle.fl_value.specs.CallText.{StopsAt, SpellsCall, BeginsCall};
+ghost use Rattle.fl_value.specs.CallText.{StopsAt, SpellsCall, BeginsCall, IsCall};
 ghost use Rattle.fl_value.specs.declared.fault.ValueFault.{ValueFault};
 ghost use Rattle.fl_value.specs.Fault.{Refuses, WantsMemory};
-ghost use Rattle.fl_value.specs.Resolve.{named_from, resolved, Answers, AnswersUnlessMemory, ComesTo, ReadsAs};
+ghost use Rattle.fl_value.specs.Resolve.{named_from, where_fitting, resolved, message_number, Answers, AnswersUnlessMemory, ComesTo, IsOfMessage, ReadsAs};
 
 use crate::fault::ValueFault;
 use crate::reader::read_values;
+use crate::scanner::spoken_name;
 use crate::tokens::{read_mark, skip_blanks};
 use fl_base::MsgNo;
 use fl_interface::{Interface, Message, Word};
@@ -19,7 +20,7 @@ use fl_value_data::{Call, Value, fits};
 use std::alloc::Global;
 
 /// How deep arrays and structs may nest in a call's text; its parentheses don't count.
-const MAX_DEPTH: u32 = 20;
+pub(crate) const MAX_DEPTH: u32 = 20;
 
 /// A call's text, read: the name of a message, and values. No interface has been asked yet.
 #[derive(Debug, Drop)]
@@ -31,7 +32,7 @@ pub struct CallText {
 }
 
 /// The word that the bytes begin with, and what follows it.
-fn read_word(bytes: &[u8]) -> Option<(&[u8], &[u8])>
+pub(crate) fn read_word(bytes: &[u8]) -> Option<(&[u8], &[u8])>
     ensures word { IfSome result (λ r. is_name r.0.now ≡ true) }
     ensures split { IfSome result (λ r. bytes.now ≡ r.0.now ++ r.1.now) }
     ensures stops { IfSome result (λ r. StopsAt is_word_byte r.1.now) }
@@ -57,7 +58,8 @@ fn read_word(bytes: &[u8]) -> Option<(&[u8], &[u8])>
 ///
 /// # Errors
 ///
-/// `NotACall` where the bytes spell no call, and `Memory`, only behind a name and an opening parenthesis.
+/// `NotACall` where the bytes spell no call, and `Memory`, only behind a name and an opening parenthesis: whether they spell a call
+/// tells [`spoken_name`] then.
 pub fn read_spoken(
     alloc: Global,
     bytes: &[u8],
@@ -80,22 +82,47 @@ pub fn read_spoken(
     Ok((name, args))
 }
 
-/// The same, with a copy of the name.
+// What bytes are refused for where memory ran out for what they spell: they may spell no call.
+#[cold]
+#[inline(never)]
+fn without_values(bytes: &[u8]) -> ValueFault
+    ensures fault { Refuses result ((name : List ℕ) (values : List Datum) → SpellsCall bytes.now name values → ⊥) }
+    ensures call { WantsMemory result (IsCall bytes.now) }
+{
+    let Some(_name) = spoken_name(bytes) else {
+        return ValueFault::NotACall;
+    };
+    ValueFault::Memory
+}
+
+// What a call's text spells. Memory is wanting only where it spells something.
+fn read_parts(alloc: Global, bytes: &[u8]) -> Result<(&[u8], Vec<Value>), ValueFault>
+    ensures found { IfOk result (λ t. SpellsCall bytes.now t.0.now (map datum_of t.1.items)) }
+    ensures fault { IfErr result (λ e. Refuses e ((name : List ℕ) (values : List Datum) → SpellsCall bytes.now name values → ⊥)) }
+    ensures call { IfErr result (λ e. WantsMemory e (IsCall bytes.now)) }
+{
+    let room = Vec::new(alloc);
+    match read_spoken(alloc, bytes, room) {
+        Ok(found) => Ok(found),
+        Err(ValueFault::NotACall) => Err(ValueFault::NotACall),
+        Err(_) => Err(without_values(bytes)),
+    }
+}
+
+/// What a call's text spells, as of [`read_spoken`], with a copy of the name.
 ///
 /// # Errors
 ///
-/// As [`read_spoken`].
+/// `NotACall` where the bytes spell no call, and `Memory`, only where they spell one.
 pub fn read_call_text(alloc: Global, bytes: &[u8]) -> Result<CallText, ValueFault>
     ensures found { IfOk result (λ t. SpellsCall bytes.now t.name.bytes.items (map datum_of t.args.items)) }
     ensures fault { IfErr result (λ e. Refuses e ((name : List ℕ) (values : List Datum) → SpellsCall bytes.now name values → ⊥)) }
-    ensures begun { IfErr result (λ e. WantsMemory e (BeginsCall bytes.now)) }
+    ensures call { IfErr result (λ e. WantsMemory e (IsCall bytes.now)) }
 {
-    let (name, args) = read_spoken(alloc, bytes, Vec::new(alloc))?;
+    let (name, args) = read_parts(alloc, bytes)?;
     let bytes = Vec::from_slice(alloc, name)?;
-    Ok(CallText {
-        name: Word { bytes },
-        args,
-    })
+    let name = Word { bytes };
+    Ok(CallText { name, args })
 }
 
 /// The number of the first message of this name.
@@ -119,20 +146,60 @@ fn number_of_message(messages: &[Message], name: &[u8]) -> Option<usize>
 pub fn resolve(interface: &Interface, text: CallText) -> Result<Call, ValueFault>
     ensures exact { Answers result (resolved (interface_of interface.now) text.name.bytes.items (map datum_of text.args.items)) }
 {
-    let Some(number) = number_of_message(&interface.messages, &text.name.bytes) else {
+    let Some(msg) = message_of_name(interface, &text.name.bytes) else {
         return Err(ValueFault::NoSuchMessage);
     };
-    let Ok(number) = u16::try_from(number) else {
-        return Err(ValueFault::NoSuchMessage);
+    fitting_call(interface, msg, text.args)
+}
+
+// The message of a name.
+fn message_of_name(interface: &Interface, name: &[u8]) -> Option<MsgNo>
+    ensures same { option_map (λ msg. msg.0) result ≡ message_number (interface_of interface.now) name.now }
+{
+    let Some(number) = number_of_message(&interface.messages, name) else {
+        return None;
     };
-    let call = Call {
-        msg: MsgNo(number),
-        args: text.args,
-    };
+    if number >= 65_536 {
+        return None;
+    }
+    Some(MsgNo(number as u16))
+}
+
+// The call of a message with these values, where they fit.
+fn fitting_call(interface: &Interface, msg: MsgNo, args: Vec<Value>) -> Result<Call, ValueFault>
+    ensures exact { Answers result (where_fitting (interface_of interface.now) (record { msg = msg.0; args = map datum_of args.items })) }
+{
+    let call = Call { msg, args };
     if !fits(&call, interface) {
         return Err(ValueFault::DoesNotFit);
     }
     Ok(call)
+}
+
+// The call of a name and values.
+fn resolve_named(interface: &Interface, name: &[u8], args: Vec<Value>) -> Result<Call, ValueFault>
+    ensures exact { Answers result (resolved (interface_of interface.now) name.now (map datum_of args.items)) }
+{
+    let Some(msg) = message_of_name(interface, name) else {
+        return Err(ValueFault::NoSuchMessage);
+    };
+    fitting_call(interface, msg, args)
+}
+
+// What bytes are refused for at an interface where memory ran out for what they spell: it may have no message of the name.
+#[cold]
+#[inline(never)]
+fn without_call(bytes: &[u8], interface: &Interface) -> ValueFault
+    ensures exact { ReadsAs (interface_of interface.now) bytes.now (Err result) }
+    ensures message { WantsMemory result (IsOfMessage (interface_of interface.now) bytes.now) }
+{
+    let Some(name) = spoken_name(bytes) else {
+        return ValueFault::NotACall;
+    };
+    let Some(_msg) = message_of_name(interface, name) else {
+        return ValueFault::NoSuchMessage;
+    };
+    ValueFault::Memory
 }
 
 /// The call that the bytes spell at an interface.
@@ -140,12 +207,15 @@ pub fn resolve(interface: &Interface, text: CallText) -> Result<Call, ValueFault
 /// # Errors
 ///
 /// `NotACall` where the bytes spell no call, else `NoSuchMessage`, else `DoesNotFit`, as [`resolve`];
-/// and `Memory`, only behind a name and an opening parenthesis.
+/// and `Memory`, only where the bytes spell a call of a message of the interface.
 pub fn read_call(alloc: Global, bytes: &[u8], interface: &Interface) -> Result<Call, ValueFault>
     ensures exact { ReadsAs (interface_of interface.now) bytes.now result }
     ensures only { (answer : Result TheCall ValueFault) → ComesTo (interface_of interface.now) bytes.now answer → AnswersUnlessMemory result answer }
-    ensures begun { IfErr result (λ e. WantsMemory e (BeginsCall bytes.now)) }
+    ensures message { IfErr result (λ e. WantsMemory e (IsOfMessage (interface_of interface.now) bytes.now)) }
 {
-    let text = read_call_text(alloc, bytes)?;
-    resolve(interface, text)
+    match read_spoken(alloc, bytes, Vec::new(alloc)) {
+        Ok((name, args)) => resolve_named(interface, name, args),
+        Err(ValueFault::NotACall) => Err(ValueFault::NotACall),
+        Err(_) => Err(without_call(bytes, interface)),
+    }
 }

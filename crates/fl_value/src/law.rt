@@ -1,7 +1,7 @@
 //! Laws of calls' texts.
 
 ghost use Rattle.fl_value.specs.CallText.{OneSpelling};
-ghost use Rattle.fl_value.specs.Printed.{PrintedReads, PrintedCallReads};
+ghost use Rattle.fl_value.specs.Printed.{PrintedReads, PrintedCallReads, FittingCallReads};
 
 /// A text spells at most one name and one list of values.
 pub fn law_one_reading()
@@ -14,8 +14,9 @@ pub fn law_printed_reads()
     ensures reading { PrintedReads }
 {}
 
-/// What is printed of a call that fits an interface reads as that call there: the interface within the limits and its counts
-/// those of 32-bit words, as each in memory, and the message's name a word, as in each interface of a text.
+/// What is printed of a call that fits an interface in memory reads as that call there. Of interfaces by themselves so does what
+/// is printed at one within the limits, its counts those of 32-bit words, and the message's name a word.
 pub fn law_printed_call_read()
     ensures reading { PrintedCallReads }
+    ensures fitting { FittingCallReads }
 {}

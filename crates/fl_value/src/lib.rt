@@ -4,6 +4,7 @@
 //! (`specs/Resolve.antt`); what [`print_call`] writes of a fitting call reads as that call ([`law_printed_call_read`], `specs/Printed.antt`).
 //!
 //! - `tokens.rt`, `reader.rt`, `calls.rt`: a text's tokens, its values, and the whole call
+//! - `scanner.rt`: whether a text spells a call, without memory
 //! - `printing.rt`: calls as text
 //! - `law.rt`: the laws
 //! - `fault.rt`: why there is no call
@@ -14,6 +15,7 @@ mod fault;
 mod law;
 mod printing;
 mod reader;
+mod scanner;
 mod tokens;
 
 pub use calls::{CallText, read_call, read_call_text, read_spoken, resolve};
@@ -24,4 +26,5 @@ pub use fl_value_data::{
 };
 pub use law::{law_one_reading, law_printed_call_read, law_printed_reads};
 pub use printing::print_call;
+pub use scanner::spoken_name;
 pub use tokens::{is_blank, skip_blanks};

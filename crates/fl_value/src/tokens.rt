@@ -41,7 +41,7 @@ pub fn skip_blanks(bytes: &[u8]) -> &[u8]
 }
 
 /// What follows the byte, where the bytes begin with it.
-fn after_byte(bytes: &[u8], byte: u8) -> Option<&[u8]>
+pub(crate) fn after_byte(bytes: &[u8], byte: u8) -> Option<&[u8]>
     ensures found { IfSome result (λ rest. bytes.now ≡ byte ∷ rest.now) }
     ensures none { IfNone result ((rest : List ℕ) → bytes.now ≡ byte ∷ rest → ⊥) }
 {
@@ -164,7 +164,7 @@ fn hex_value(byte: u8) -> Option<u8>
 
 /// The byte that a text's bytes begin with, an escape undone, and what follows it. There is none
 /// at the closing quote, and where no byte of a text stands.
-fn read_byte(bytes: &[u8]) -> Option<(u8, &[u8])>
+pub(crate) fn read_byte(bytes: &[u8]) -> Option<(u8, &[u8])>
     ensures found { IfSome result (λ r. TextByte r.0 bytes.now r.1.now) }
     ensures none { IfNone result ((b : ℕ) (rest : List ℕ) → TextByte b bytes.now rest → ⊥) }
     ensures shorter { IfSome result (λ r. length r.1.now < length bytes.now) }

@@ -6,7 +6,7 @@ ghost use Rattle.fl_world_refines.specs.Binding.{new_queue};
 ghost use Rattle.fl_world_events.specs.Parts.{InCore};
 ghost use Rattle.fl_world_events.specs.Queued.{IsOnQueue, Lists, ListsBoth, MayJoin, JoinsIn, MayJoinAt, JoinsAt};
 
-use crate::lending::whole;
+use crate::lending::law_whole;
 use fl_core::{Core, EndPlaces, LocalBinding};
 use fl_link::QueueLink;
 use std::alloc::{AllocError, Global};
@@ -59,12 +59,12 @@ fn join(
     ensures back { back.new ≡ back.old }
     ensures kept { OnErr result (core.new ≡ core.old) }
 {
-    whole(core);
+    law_whole(core);
     let Ok(ends) = core.add_both(both) else {
         return Err(AllocError);
     };
     register_both(core, ends, forth, back);
-    whole(core);
+    law_whole(core);
     Ok(())
 }
 

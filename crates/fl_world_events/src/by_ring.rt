@@ -8,7 +8,7 @@ ghost use Rattle.fl_world_refines.specs.View.{IsWhole};
 ghost use Rattle.fl_world_events.specs.Parts.{InCore};
 ghost use Rattle.fl_world_events.specs.RingEnds.{HasRoom, AddsEnd, TakesFromRing, RegistersOver, Joins, JoinsBoth};
 
-use crate::lending::whole;
+use crate::lending::law_whole;
 use crate::taking::register_by_ring;
 use fl_base::EndId;
 use fl_core::{Core, EndWiring, WiredEnd};
@@ -43,7 +43,7 @@ fn add_end(core: &mut Core, joiner: NewRingEnd) -> Result<usize, AllocError>
     ensures ring { IfOk result (λ place. TakesFromRing core.new place) }
     ensures kept { OnErr result (core.new ≡ core.old) }
 {
-    whole(core);
+    law_whole(core);
     let wired_end = WiredEnd {
         name: joiner.name,
         wiring: EndWiring::Ring(joiner.side),

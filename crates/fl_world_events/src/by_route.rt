@@ -19,7 +19,7 @@ ghost use Rattle.fl_world_events.specs.Requests.{HasDispatcher};
 ghost use Rattle.fl_world_events.specs.Routes.{IsNumberOf, BeginsIn, AtOne, BeginsWith, IsUnmade, Follows, OpensOver};
 ghost use Rattle.fl_world_events.specs.Routes.{IsAt, IsAnsweredIn};
 
-use crate::lending::whole;
+use crate::lending::law_whole;
 use fl_base::{CoreId, LinkId};
 use fl_compile::Program;
 use fl_core::{BoardFault, Core, OpenFault};
@@ -109,7 +109,7 @@ pub fn may_open_in(
     ensures whole { IsWhole core.now }
     ensures may { MayOpen (wanted program.now program.now server path.now count) core.now.monitor.circuits result }
 {
-    whole(core);
+    law_whole(core);
     core.monitor()
         .may_open(program, program, server, path.cores(), count)
 }
@@ -133,7 +133,7 @@ fn answer_in(core: &Core, dispatcher: usize, link: LinkId, opening: &Opening) ->
     ensures answer { IfSome result (λ a. IsAnsweredIn dispatcher link opening.now (answer_of a) core.now) }
     ensures may { IfNone result (MayOpenAt dispatcher link opening.now core.now) }
 {
-    whole(core);
+    law_whole(core);
     if core.has_end(opening.binding as usize) {
         return Some(Answer::Nothing);
     }
@@ -170,12 +170,12 @@ fn open_in(
     ensures begins { IfOk result (λ o. InCore (BeginsIn (asked dispatcher program link opening.now) o) core.old core.new) }
     ensures kept { OnErr result (core.new ≡ core.old) }
 {
-    whole(core);
+    law_whole(core);
     if core.has_end(opening.binding as usize) {
         return Ok(OpenOutcome::There);
     }
     let outcome = core.open(dispatcher, program, link, opening);
-    whole(core);
+    law_whole(core);
     match outcome {
         Ok(_) => Ok(OpenOutcome::Waits),
         Err(fault) => Ok(OpenOutcome::Refused(number_of(fault)?)),

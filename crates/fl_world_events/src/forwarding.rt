@@ -11,7 +11,7 @@ ghost use Rattle.fl_world_events.specs.Parts.{InCore};
 ghost use Rattle.fl_world_events.specs.Passing.{StandsAt, PassesOver};
 ghost use Rattle.fl_world_events.specs.Following.{TakesRulesOf, TakesKept};
 
-use crate::lending::{ring_at, whole};
+use crate::lending::{law_whole, ring_at};
 use crate::moving::{ForwardFrag, move_between};
 use fl_core::{Core, LinkReceiveFault, MonitorAnswer};
 use fl_endpoint::End;
@@ -89,10 +89,10 @@ fn take_rules_in(core: &mut Core, place: usize, kept: End)
     requires place { place < length core.old.board.seats }
     ensures takes { InCore (TakesRulesOf kept place) core.old core.new }
 {
-    whole(core);
+    law_whole(core);
     let mut kept = kept;
     exchange(core, place, &mut kept);
-    whole(core);
+    law_whole(core);
 }
 
 /// The end at a place of a core's board gets the rules of the one that a binding keeps for it, if it keeps one: then it keeps none any more.

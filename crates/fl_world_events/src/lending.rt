@@ -8,10 +8,10 @@ use fl_ring::WhichSide;
 
 /// What is known of a core at any time. It does nothing.
 #[inline(always)]
-pub(crate) fn whole(core: &Core)
+pub(crate) fn law_whole(core: &Core)
     ensures whole { IsWhole core.now }
 {
-    core.sound();
+    core.law_sound();
 }
 
 /// The ring of side n.

@@ -5,7 +5,7 @@ ghost use Rattle.fl_world_refines.specs.Linking.{write_answer, MonitorWritesWith
 ghost use Rattle.fl_model.specs.Views.{answer_of};
 ghost use Rattle.fl_world_events.specs.Parts.{ByRing};
 
-use crate::lending::{which_at, whole};
+use crate::lending::{law_whole, which_at};
 use crate::taking::answer_ack;
 use fl_base::LinkId;
 use fl_core::{Core, MonitorWrite};
@@ -29,10 +29,10 @@ fn answer_write(answer: MonitorWrite) -> Answer
 pub fn monitor_write_by_ring(core: &mut Core, link: LinkId, ring: &mut OneDuo, m: usize) -> Answer
     ensures writes { ByRing m (MonitorWritesWith link.0 (answer_of result)) core.old ring.old core.new ring.new }
 {
-    whole(core);
+    law_whole(core);
     let mut side = ring.side(which_at(m));
     let outcome = core.monitor_write(link, &mut side);
-    whole(core);
+    law_whole(core);
     answer_write(outcome)
 }
 
@@ -41,7 +41,7 @@ pub fn monitor_ack_by_ring(core: &Core, link: LinkId, ring: &mut OneDuo, m: usiz
     requires link { link.0 < length core.now.link_sides }
     ensures acks { ByRing m (AcksLinkWith (answer_of result)) core.now ring.old core.now ring.new }
 {
-    whole(core);
+    law_whole(core);
     let mut side = ring.side(which_at(m));
     answer_ack(core.monitor_ack(link, &mut side))
 }

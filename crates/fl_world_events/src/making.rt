@@ -9,7 +9,7 @@ ghost use Rattle.fl_world_refines.specs.View.{IsWhole};
 ghost use Rattle.fl_world_refines.specs.Making.{fresh_cores};
 ghost use Rattle.fl_world_events.specs.Parts.{LinksBoth};
 
-use crate::lending::whole;
+use crate::lending::law_whole;
 use fl_base::CoreId;
 use fl_compile::Program;
 use fl_core::Core;
@@ -63,7 +63,7 @@ fn link(core: &mut Core, neighbour: CoreId, side: usize) -> Result<(), AllocErro
     ensures links { OnOk result (core.new ≡ linked core.old neighbour side) }
     ensures kept { OnErr result (core.new ≡ core.old) }
 {
-    whole(core);
+    law_whole(core);
     match core.add_link(neighbour, side) {
         Ok(_) => Ok(()),
         Err(_) => Err(AllocError),

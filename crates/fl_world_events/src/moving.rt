@@ -13,7 +13,7 @@ ghost use Rattle.fl_world_events.specs.Passing.{Passes};
 ghost use Rattle.fl_core.specs.Links.{inbound};
 ghost use Rattle.fl_core.specs.Hearing.{HearsFragLast};
 
-use crate::lending::{which_at, whole};
+use crate::lending::{law_whole, which_at};
 use crate::places::LinkWithSide;
 use fl_base::{Circuit, EndId, Frag};
 use fl_compile::Program;
@@ -37,10 +37,10 @@ pub fn look_by_ring(
     requires link { at.link.0 < length core.old.link_sides }
     ensures looks { ByRing at.side (LooksWith at.link.0 result) core.old ring.old core.new ring.new }
 {
-    whole(core);
+    law_whole(core);
     let mut side = ring.side(which_at(at.side));
     let ahead = core.look(at.link, &mut side);
-    whole(core);
+    law_whole(core);
     ahead
 }
 
@@ -64,10 +64,10 @@ pub fn hear_by_ring(
         core.old ring.old core.new ring.new }
     ensures last { IfErr result (HearsFragLast (record { names = names.now; programs = programs.now }) at.link frag.now core.old) }
 {
-    whole(core);
+    law_whole(core);
     let mut side = ring.side(which_at(at.side));
     let answer = core.hear(at.link, &mut side, frag, names, programs);
-    whole(core);
+    law_whole(core);
     answer
 }
 
@@ -106,10 +106,10 @@ pub fn arrive_by_ring(
     requires call { is_ack_only (with_circuit 0 frag.now) ≡ false }
     ensures arrives { ByRing at.side (ArrivesWith (inbound at.link.0 frag.now name) (answer_of result)) core.old ring.old core.new ring.new }
 {
-    whole(core);
+    law_whole(core);
     let mut side = ring.side(which_at(at.side));
     let outcome = core.arrive(at.link, &mut side, frag, name);
-    whole(core);
+    law_whole(core);
     answer_arrival(outcome)
 }
 

@@ -14,7 +14,7 @@ ghost use Rattle.fl_model.specs.Views.{answer_of};
 ghost use Rattle.fl_world_events.specs.Last.{NotRefused};
 ghost use Rattle.fl_world_events.specs.Parts.{InCore, ByQueue, ByRing, CallsIn, CallsWith, KeptOrNone};
 
-use crate::lending::{which_at, whole};
+use crate::lending::{law_whole, which_at};
 use fl_base::{Frag, faults};
 use fl_core::Core;
 use fl_endpoint::{EndFault, WriteAnswer};
@@ -62,9 +62,9 @@ pub fn call_in(core: &mut Core, place: usize, call: &Call) -> Result<Answer, All
     ensures kept { OnErr result (core.new ≡ core.old) }
     ensures last { OnErr result (NotRefused (λ a k. CallsIn place (call_of call.now) a core.old k)) }
 {
-    whole(core);
+    law_whole(core);
     let outcome = core.call(place, call);
-    whole(core);
+    law_whole(core);
     answer_call(outcome)
 }
 
@@ -147,9 +147,9 @@ pub fn write_by_queue(core: &mut Core, place: usize, queue: &mut QueueLink) -> A
     requires place { place < length core.old.board.seats }
     ensures writes { ByQueue (WritesWith QueuePuts (answer_at place (answer_of result))) core.old queue.old core.new queue.new }
 {
-    whole(core);
+    law_whole(core);
     let outcome = core.write(place, queue);
-    whole(core);
+    law_whole(core);
     wrote(outcome)
 }
 
@@ -159,9 +159,9 @@ pub fn write_by_ring(core: &mut Core, place: usize, ring: &mut OneDuo, m: usize)
     requires place { place < length core.old.board.seats }
     ensures writes { ByRing m (WritesWith SidePuts (answer_at place (answer_of result))) core.old ring.old core.new ring.new }
 {
-    whole(core);
+    law_whole(core);
     let mut side = ring.side(which_at(m));
     let outcome = core.write(place, &mut side);
-    whole(core);
+    law_whole(core);
     wrote(outcome)
 }

@@ -19,7 +19,7 @@ ghost use Rattle.fl_model.specs.Views.{answer_of};
 ghost use Rattle.fl_world_events.specs.Parts.{InCore, ByQueue, ByRing, KeptOrNone, RulesIn, RulesWith};
 ghost use Rattle.fl_world_events.specs.Wants.{HandlesCall, HandlesOnRing, HandlesArrival};
 
-use crate::lending::{which_at, whole};
+use crate::lending::{law_whole, which_at};
 use fl_base::{EndId, MsgNo, faults};
 use fl_core::{AckAnswer, BoardFault, Core, TurnAnswer};
 use fl_endpoint::EndFault;
@@ -60,11 +60,11 @@ fn answer_turn(answer: TurnAnswer, end: EndId) -> Answer
 }
 
 // What is known of an end at any time. It does nothing.
-fn sound(core: &Core, e: usize)
+fn law_sound(core: &Core, e: usize)
     requires there { e < length core.now.board.seats }
     ensures sound { Holds core.now.board e (λ s. Sound s.end) }
 {
-    core.board().end_sound(e);
+    core.board().law_end_sound(e);
 }
 
 /// A dispatcher of a core has a turn, over the queue of the end that is due.
@@ -87,10 +87,10 @@ pub fn turn_by_queue(
     ensures left { OnErr result (queue.new ≡ queue.old) }
     ensures wants { OnErr result (HandlesCall QueueTakes at.dispatcher at.end core.old.board queue.old) }
 {
-    whole(core);
-    sound(core, at.end);
+    law_whole(core);
+    law_sound(core, at.end);
     let answer = core.turn(at.dispatcher, at.end, queue);
-    whole(core);
+    law_whole(core);
     match answer {
         Ok(answer) => Ok(answer_turn(answer, at.name)),
         Err(error) => Err(error),
@@ -113,10 +113,10 @@ fn turn_over(
         core.old ring.old core.new ring.new }
     ensures kept { OnErr result (core.new ≡ core.old) }
 {
-    whole(core);
+    law_whole(core);
     let mut side = ring.side(which_at(m));
     let answer = core.turn(at.dispatcher, at.end, &mut side);
-    whole(core);
+    law_whole(core);
     answer
 }
 
@@ -141,7 +141,7 @@ pub fn turn_by_ring(
     ensures wants { OnErr result (HandlesOnRing m at.dispatcher at.end core.old.board ring.old) }
 {
     let known = ring.known(which_at(m));
-    sound(core, at.end);
+    law_sound(core, at.end);
     match turn_over(core, at, ring, m) {
         Ok(answer) => Ok(answer_turn(answer, at.name)),
         Err(error) => {
@@ -165,10 +165,10 @@ pub fn turn_in(core: &mut Core, at: DueEnd) -> Result<Answer, AllocError>
     ensures kept { OnErr result (core.new ≡ core.old) }
     ensures wants { OnErr result (HandlesArrival at.dispatcher at.end core.old) }
 {
-    whole(core);
-    sound(core, at.end);
+    law_whole(core);
+    law_sound(core, at.end);
     let answer = core.turn_arrivals(at.dispatcher, at.end);
-    whole(core);
+    law_whole(core);
     match answer {
         Ok(answer) => Ok(answer_turn(answer, at.name)),
         Err(error) => Err(error),
@@ -194,7 +194,7 @@ pub fn ack_by_ring(core: &Core, place: usize, ring: &mut OneDuo, m: usize) -> An
     requires lent { arrivals_of core.now place ≡ None }
     ensures acks { ByRing m (AcksWith (answer_at place (answer_of result))) core.now ring.old core.now ring.new }
 {
-    whole(core);
+    law_whole(core);
     let mut side = ring.side(which_at(m));
     match core.ack(place, &mut side) {
         Ok(answer) => answer_ack(answer),
@@ -232,9 +232,9 @@ pub fn register_by_queue(core: &mut Core, place: usize, queue: &mut QueueLink) -
     requires lent { arrivals_of core.old place ≡ None }
     ensures registers { ByQueue (RegistersWith QueueTakes (answer_at place (answer_of result))) core.old queue.old core.new queue.new }
 {
-    whole(core);
+    law_whole(core);
     let outcome = core.register(place, queue);
-    whole(core);
+    law_whole(core);
     answer_register(outcome)
 }
 
@@ -244,10 +244,10 @@ pub fn register_by_ring(core: &mut Core, place: usize, ring: &mut OneDuo, m: usi
     requires lent { arrivals_of core.old place ≡ None }
     ensures registers { ByRing m (RegistersWith SideTakes (answer_at place (answer_of result))) core.old ring.old core.new ring.new }
 {
-    whole(core);
+    law_whole(core);
     let mut side = ring.side(which_at(m));
     let outcome = core.register(place, &mut side);
-    whole(core);
+    law_whole(core);
     answer_register(outcome)
 }
 
@@ -256,9 +256,9 @@ pub fn register_in(core: &mut Core, place: usize) -> Answer
     requires own { IsSome (arrivals_of core.old place) }
     ensures registers { InCore (RegistersArrivals (answer_at place (answer_of result))) core.old core.new }
 {
-    whole(core);
+    law_whole(core);
     let outcome = core.register_arrivals(place);
-    whole(core);
+    law_whole(core);
     answer_register(outcome)
 }
 
@@ -267,9 +267,9 @@ pub fn deregister_in(core: &mut Core, place: usize) -> Answer
     requires place { place < length core.old.board.seats }
     ensures deregisters { InCore (DeregistersIn (answer_at place (answer_of result))) core.old core.new }
 {
-    whole(core);
+    law_whole(core);
     let outcome = core.deregister(place);
-    whole(core);
+    law_whole(core);
     answer_register(outcome)
 }
 
@@ -290,9 +290,9 @@ pub fn rule_in(core: &mut Core, place: usize, message: MsgNo, answer: MsgNo) -> 
     requires place { place < length core.old.board.seats }
     ensures rules { InCore (RulesIn place message.0 answer.0 (answer_of result)) core.old core.new }
 {
-    whole(core);
+    law_whole(core);
     let outcome = core.reply_rule(place, message, answer);
-    whole(core);
+    law_whole(core);
     answer_rule(outcome)
 }
 

@@ -30,7 +30,7 @@ use Rattle.fl_interface.specs.SameTypes.{same_arguments}
 use Rattle.fl_model.specs.Taking.{has_message, arguments_of}
 use Rattle.fl_model.specs.SoundLabels.{IsCounted}
 use Rattle.fl_model.specs.SoundCalls.{AllFit}
-use Rattle.fl_world_refines.specs.Ends.{planned_of, parts_of, EndShows, MachineEnd, Pictured}
+use Rattle.fl_world_refines.specs.Ends.{planned_of, parts_of, EndShows, MachineEnd, ShowsMachineEnd}
 
 -- the end with something done to its direction
 abbrev pub with_out : (Direction → Direction) → End → End
@@ -55,14 +55,14 @@ abbrev pub CallAgrees : EndId → TheCall → MachineEnd → Result (Unit {0}) E
 CallAgrees e c m (Ok done) t =
     ((z : State) → makes_call e c m.interface m.end z ≡ answers (change_out e (accepts c) z) accepted)
     × EndShows m.interface (with_out (accepts c) m.end) m.peer t
-CallAgrees e c m (Err Memory) t = Pictured m t
+CallAgrees e c m (Err Memory) t = ShowsMachineEnd m t
 CallAgrees e c m (Err fault) t =
-    ((z : State) → makes_call e c m.interface m.end z ≡ answers z (refused (fault_number fault))) × Pictured m t
+    ((z : State) → makes_call e c m.interface m.end z ≡ answers z (refused (fault_number fault))) × ShowsMachineEnd m t
 
 -- so it is with each call that an end is asked to make
 abbrev pub CallShows : Type 0
 CallShows = (e : EndId) (c : TheCall) (m : MachineEnd) (s t : TheEnd) (answer : Result (Unit {0}) EndFault)
-    → Pictured m s → IsCounted m.interface m.end.out → Calls s c answer t → CallAgrees e c m answer t
+    → ShowsMachineEnd m s → IsCounted m.interface m.end.out → Calls s c answer t → CallAgrees e c m answer t
 
 -- ---- the fragment that would be written next
 
@@ -92,18 +92,18 @@ WriteAgrees puts m p (Ok (Written number count)) t q =
     × ((writes m.interface m.end.out there_is_room).answer ≡ written number count)
     × EndShows m.interface (with_out (λ d. (writes m.interface d there_is_room).direction) m.end) m.peer t
 WriteAgrees puts m p (Ok Full) t q =
-    HasMore m.interface m.end × puts p no_room q × ((writes m.interface m.end.out none_free).answer ≡ full) × Pictured m t
+    HasMore m.interface m.end × puts p no_room q × ((writes m.interface m.end.out none_free).answer ≡ full) × ShowsMachineEnd m t
 WriteAgrees puts m p (Ok Nothing) t q =
-    (is_bound m.end ≡ true) × (is_busy m.interface m.end.out ≡ false) × (q ≡ p) × Pictured m t
+    (is_bound m.end ≡ true) × (is_busy m.interface m.end.out ≡ false) × (q ≡ p) × ShowsMachineEnd m t
 WriteAgrees puts m p (Err Spent) t q =
-    HasMore m.interface m.end × puts p spent q × ((writes m.interface m.end.out used_up).answer ≡ refused (fault_number Spent)) × Pictured m t
-WriteAgrees puts m p (Err NotBound) t q = (is_bound m.end ≡ false) × (q ≡ p) × Pictured m t
+    HasMore m.interface m.end × puts p spent q × ((writes m.interface m.end.out used_up).answer ≡ refused (fault_number Spent)) × ShowsMachineEnd m t
+WriteAgrees puts m p (Err NotBound) t q = (is_bound m.end ≡ false) × (q ≡ p) × ShowsMachineEnd m t
 WriteAgrees puts m p (Err fault) t q = ⊥
 
 -- so it is with each end that writes over a side of this kind
 abbrev pub WriteShows : {P : Type 0} → (P → Look → P → Type 0) → Type 0
 WriteShows {P} puts = (m : MachineEnd) (p q : P) (s t : TheEnd) (answer : Result WriteAnswer EndFault)
-    → Pictured m s → IsCounted m.interface m.end.out → 1 ≤ length m.end.out.passed
+    → ShowsMachineEnd m s → IsCounted m.interface m.end.out → 1 ≤ length m.end.out.passed
     → Writes puts s p answer t q → WriteAgrees puts m p answer t q
 
 -- ---- a fragment is taken
@@ -140,17 +140,17 @@ ReceiveAgrees {T} takes m p (Ok (Handle call)) t q =
     TakesFragments m.end × ((f : Frag) × (looked : T) × takes p (saw f) looked × takes looked (found f) q)
     × TakeAgrees m.interface m.end m.peer (Ok (Handle call)) t
 ReceiveAgrees {T} takes m p (Ok Quiet) t q =
-    TakesFragments m.end × ((looked : T) × takes p saw_ack looked × takes looked found_ack q) × Pictured m t
-ReceiveAgrees takes m p (Ok Empty) t q = TakesFragments m.end × takes p missed q × Pictured m t
-ReceiveAgrees takes m p (Ok HeldBack) t q = (is_bound m.end ≡ true) × (holds_back m.end ≡ true) × (q ≡ p) × Pictured m t
-ReceiveAgrees takes m p (Err Memory) t q = TakesFragments m.end × ((f : Frag) × takes p (saw f) q) × Pictured m t
-ReceiveAgrees takes m p (Err NotBound) t q = (is_bound m.end ≡ false) × (q ≡ p) × Pictured m t
+    TakesFragments m.end × ((looked : T) × takes p saw_ack looked × takes looked found_ack q) × ShowsMachineEnd m t
+ReceiveAgrees takes m p (Ok Empty) t q = TakesFragments m.end × takes p missed q × ShowsMachineEnd m t
+ReceiveAgrees takes m p (Ok HeldBack) t q = (is_bound m.end ≡ true) × (holds_back m.end ≡ true) × (q ≡ p) × ShowsMachineEnd m t
+ReceiveAgrees takes m p (Err Memory) t q = TakesFragments m.end × ((f : Frag) × takes p (saw f) q) × ShowsMachineEnd m t
+ReceiveAgrees takes m p (Err NotBound) t q = (is_bound m.end ≡ false) × (q ≡ p) × ShowsMachineEnd m t
 ReceiveAgrees takes m p (Err fault) t q = ⊥
 
 -- so it is over a side of this kind, where what stands first is the fragment next in turn
 abbrev pub ReceiveShows : {T : Type 0} → (T → Look → T → Type 0) → Type 0
 ReceiveShows {T} takes = (m : MachineEnd) (p q : T) (s t : TheEnd) (answer : Result ReceiveAnswer EndFault)
-    → Pictured m s → Sound s → IsCounted m.interface m.end.out → length m.end.out.waiting ≤ 16
+    → ShowsMachineEnd m s → Sound s → IsCounted m.interface m.end.out → length m.end.out.waiting ≤ 16
     → AllFit m.interface m.peer.accepted → 1 ≤ length m.peer.passed → IsNextAt takes m.interface m.peer p
     → Receives takes s p answer t q → ReceiveAgrees takes m p answer t q
 
@@ -169,15 +169,15 @@ abbrev pub RuleAgrees : ℕ → ℕ → MachineEnd → Result (Unit {0}) EndFaul
 RuleAgrees msg reply m (Ok done) t =
     (are_messages m.interface msg reply ≡ true) × (have_same_arguments m.interface msg reply ≡ true)
     × EndShows m.interface (with_rule msg reply m.end) m.peer t
-RuleAgrees msg reply m (Err UnknownMessage) t = (are_messages m.interface msg reply ≡ false) × Pictured m t
+RuleAgrees msg reply m (Err UnknownMessage) t = (are_messages m.interface msg reply ≡ false) × ShowsMachineEnd m t
 RuleAgrees msg reply m (Err Misfit) t =
-    (are_messages m.interface msg reply ≡ true) × (have_same_arguments m.interface msg reply ≡ false) × Pictured m t
+    (are_messages m.interface msg reply ≡ true) × (have_same_arguments m.interface msg reply ≡ false) × ShowsMachineEnd m t
 RuleAgrees msg reply m (Err fault) t = ⊥
 
 -- so it is with each rule, whether the end is bound or not
 abbrev pub RuleShows : Type 0
 RuleShows = (msg reply : ℕ) (m : MachineEnd) (s t : TheEnd) (answer : Result (Unit {0}) EndFault)
-    → Pictured m s → SetsRule s msg reply answer t → RuleAgrees msg reply m answer t
+    → ShowsMachineEnd m s → SetsRule s msg reply answer t → RuleAgrees msg reply m answer t
 
 -- ---- the other end
 

@@ -52,5 +52,5 @@ abbrev pub machine_end : Planned → Side → Binding → MachineEnd
 machine_end i side b = record { interface = i; end = end_in side b; peer = (end_in (other side) b).out }
 
 -- the end t is what is shown of it
-abbrev pub Pictured : MachineEnd → TheEnd → Type 0
-Pictured m t = EndShows m.interface m.end m.peer t
+abbrev pub ShowsMachineEnd : MachineEnd → TheEnd → Type 0
+ShowsMachineEnd m t = EndShows m.interface m.end m.peer t

@@ -9,7 +9,7 @@ pub mod RingLaws
 pub mod FragmentLaws
 pub mod CoreLaws
 pub mod StateLaws
--- The public promises rest on View and Picture, on the relations of events (Making, Binding, Sending, Taking, Linking, Step), with Lending
+-- The public promises rest on View and ShowsState, on the relations of events (Making, Binding, Sending, Taking, Linking, Step), with Lending
 -- for where one happens, on Laws, and on Apart. Hearing is a working file: a law that only the proofs need.
 pub mod View
 pub mod ShowsState

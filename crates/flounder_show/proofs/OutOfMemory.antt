@@ -7,7 +7,7 @@ use Rattle.fl_interface.specs.Interface.{TheInterface}
 use Rattle.fl_interface.specs.Limits.{is_within_limits}
 use Rattle.fl_check.specs.Texts.{is_message_spellable}
 use Rattle.fl_value_data.specs.declared.value.PlanNo.{PlanNo}
-use Rattle.fl_image.specs.Image.{two, is_name, name_image, message_image, codes_image, codes_of, magic, version_of, is_writable, has_image, image_of}
+use Rattle.fl_image.specs.Image.{two, is_name, name_image, message_image, codes_image, codes_of, magic, version_of, is_spellable, has_image, image_of}
 use Rattle.fl_image.specs.Outcome.{BeginsAsImage}
 use Rattle.flounder_show.specs.Content.{StandsFor, IsRefusalOf, IsImageRefusalOf}
 use Rattle.flounder_show.specs.declared.fault.ShowFault.{ShowFault}
@@ -22,7 +22,7 @@ image_begins bytes plan x (has, is) =
       plan = plan;
       name = x.name;
       rest = messages ++ codes;
-      is_named = (and_parts (is_name x.name) (list_all is_message_spellable x.messages) (and_parts (is_within_limits x) (is_writable x) has).1).0;
+      is_named = (and_parts (is_name x.name) (list_all is_message_spellable x.messages) (and_parts (is_within_limits x) (is_spellable x) has).1).0;
       spelled = is ∙ ap (λ (l : List ℕ). magic ++ (two (version_of plan) ++ l)) (append_assoc (name_image x.name) messages codes);
     }
 

@@ -13,7 +13,8 @@ use Rattle.fl_check.proofs.TextInterfaces.{texts_are_spellable}
 use Rattle.fl_value_data.specs.declared.value.PlanNo.{PlanNo}
 use Rattle.fl_value_data.specs.declared.value.PlanNo.TheVariants.{Two}
 use Rattle.fl_compile.specs.Programs.{TheProgram}
-use Rattle.fl_image.specs.Image.{is_writable, has_image, image_of}
+use Rattle.fl_image.specs.Image.{is_spellable, is_writable, has_image, image_of}
+use Rattle.fl_image.proofs.Named.{spellable_enums}
 use Rattle.flounder_show.specs.Content.{StandsFor as TextStandsFor, IsImageOf, ShowsImage, HeadsImage}
 use Rattle.flounder_show.specs.Table.{IsTable}
 use Rattle.flounder_header.specs.Header.{IsHeader}
@@ -25,13 +26,13 @@ both false b p q = absurd cc
 pub text_has_image : (bytes : List ℕ) (tokens : TheTokens) (tree : TheTree) (i : TheInterface) → IsLexed bytes tokens → Derives tokens.tokens tree
     → StandsFor tree i → has_image i ≡ true
 text_has_image bytes tokens tree i l p s =
-    both (is_within_limits i) (is_writable i) (ap is_within_limits s.1 ∙ within_limits tree s.0)
+    both (is_within_limits i) (is_spellable i) (ap is_within_limits s.1 ∙ within_limits tree s.0)
     (texts_are_spellable bytes i (record { tokens = tokens; tree = tree; spells = l; derives = p; checks = s }))
 
 -- so an image can spell it
 pub text_is_writable : (bytes : List ℕ) (i x : TheInterface) → TextStandsFor bytes i → x ≡ i → is_writable x ≡ true
 text_is_writable bytes i x s e =
-    ap is_writable e ∙ (and_parts (is_within_limits i) (is_writable i) (text_has_image bytes s.tokens s.tree i s.spells s.derives s.checks)).1
+    ap is_writable e ∙ spellable_enums i (and_parts (is_within_limits i) (is_spellable i) (text_has_image bytes s.tokens s.tree i s.spells s.derives s.checks)).1
 
 -- what a program's image is an image of, where the program was compiled from a text's interface under plan 2
 pub image_told : (bytes image : List ℕ) (i : TheInterface) (p : TheProgram) → TextStandsFor bytes i → p.interface ≡ i → p.plan ≡ Two → image ≡ image_of p.plan p.interface

@@ -167,11 +167,7 @@ fn goes_on(alloc: Global, tokens: &Tokens<'_>) -> Option<bool> {
 
 // Whether a token could stand behind these, if memory isn't refused.
 fn fits(alloc: Global, tokens: &mut Tokens<'_>, candidate: &Candidate) -> Option<bool> {
-    let token = Token {
-        kind: candidate.kind,
-        text: candidate.text,
-        at: usize::MAX - 1,
-    };
+    let token = Token::new(candidate.kind, candidate.text, usize::MAX - 1)?;
     if tokens.items.push(token).is_err() {
         return None;
     }

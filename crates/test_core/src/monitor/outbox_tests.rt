@@ -59,7 +59,7 @@ fn sends_all(outbox: &mut Outbox, circuits: Range<u64>) -> bool {
 
 // A 65th message is refused until one was sent.
 fn goes_in_order(messenger: &Messenger, outbox: &mut Outbox) -> Result<bool, AllocError> {
-    outbox.sound();
+    outbox.law_sound();
     if sends(outbox).is_some()
         || !fills(messenger, outbox)?
         || !puts(messenger, outbox, 64, Err(MonitorFault::OutboxFull))?

@@ -48,7 +48,7 @@ fn pass_through(core: &mut Core, end: End, name: EndId) -> StepOutcome {
         name,
         wiring: EndWiring::Ring(0),
     };
-    core.sound();
+    core.law_sound();
     match core.add_end(0, end, wired_end) {
         Ok(_) => {
             core.take_back_end();
@@ -151,7 +151,7 @@ pub fn links(core: &mut Core, neighbour: CoreId, side: usize) -> StepOutcome {
 
 /// A link that is added and taken back: its number.
 pub fn link_comes_and_goes(core: &mut Core, neighbour: CoreId) -> StepOutcome {
-    core.sound();
+    core.law_sound();
     match core.add_link(neighbour, 9) {
         Ok(link) => {
             core.take_back_link();

@@ -8,9 +8,9 @@ use fl_interface::{ArgType, FixedType, Interface, Message, Word, counts_fit};
 use std::alloc::{AllocError, Global};
 use std::test::Fail;
 
-fn word(alloc: Global, bytes: &[u8]) -> Result<Word, AllocError> {
+fn word(alloc: Global, bytes: &[u8]) -> Result<Option<Word>, AllocError> {
     let bytes = Vec::from_slice(alloc, bytes)?;
-    Ok(Word { bytes })
+    Ok(Word::new(bytes))
 }
 
 enum MadeInterface {
@@ -20,7 +20,7 @@ enum MadeInterface {
     Enum(u32),
 }
 
-// An interface, and whether an image can spell it.
+// An interface, and whether it can be made and an image can spell it.
 struct WritableRow(MadeInterface, bool);
 
 const SPELLED: &[WritableRow] = &[
@@ -42,27 +42,33 @@ const SPELLED: &[WritableRow] = &[
     WritableRow(MadeInterface::Enum(65_541), false),
 ];
 
-fn of_name(alloc: Global, name: &[u8]) -> Result<Interface, AllocError> {
-    let name = word(alloc, name)?;
+fn of_name(alloc: Global, name: &[u8]) -> Result<Option<Interface>, AllocError> {
+    let Some(name) = word(alloc, name)? else {
+        return Ok(None);
+    };
     let messages = Vec::new(alloc);
-    Ok(Interface { name, messages })
+    Ok(Some(Interface { name, messages }))
 }
 
 /// The interface `i` with a message `m` of one argument, an enum of so many enumerators.
-fn of_enum(alloc: Global, count: u32) -> Result<Interface, AllocError>
+fn of_enum(alloc: Global, count: u32) -> Result<Option<Interface>, AllocError>
     requires some { 1 ≤ count }
 {
     let mut args = Vec::new(alloc);
     args.push(ArgType::Fixed(FixedType::Enumeration(count)))?;
-    let name = word(alloc, b"m")?;
+    let Some(name) = word(alloc, b"m")? else {
+        return Ok(None);
+    };
     let mut messages = Vec::new(alloc);
     messages.push(Message { name, args })?;
-    let name = word(alloc, b"i")?;
+    let Some(name) = word(alloc, b"i")? else {
+        return Ok(None);
+    };
     counts_fit(&messages);
-    Ok(Interface { name, messages })
+    Ok(Some(Interface { name, messages }))
 }
 
-fn make(alloc: Global, made: &MadeInterface) -> Result<Interface, AllocError> {
+fn make(alloc: Global, made: &MadeInterface) -> Result<Option<Interface>, AllocError> {
     match made {
         MadeInterface::Name(name) => of_name(alloc, name),
         MadeInterface::Enum(count) => {
@@ -77,8 +83,11 @@ fn make(alloc: Global, made: &MadeInterface) -> Result<Interface, AllocError> {
 
 impl TextCase for WritableRow {
     fn holds(&self, alloc: Global) -> Result<bool, Fail> {
-        let interface = make(alloc, &self.0)?;
-        Ok(is_writable(&interface) == self.1)
+        let found = match make(alloc, &self.0)? {
+            Some(interface) => is_writable(&interface),
+            None => false,
+        };
+        Ok(found == self.1)
     }
 }
 

@@ -423,3 +423,243 @@ fn reassembling_without_memory(rt: HostRuntime) {
         assert!(rt; as_fed);
     }
 }
+
+// Calls of several fragments whose payload is their packed tape, and others, of all that has a width of its own.
+const WIDE: &[u8] = b"interface i {
+    message m(uint64 a, uint64 b, uint64 c, uint64 d, uint64 e, uint64 f, uint64 g, uint64 h);
+}";
+
+const APART: &[u8] = b"interface i {
+    message m(int8 a, int64 b, uint16 c, int32 d, bool e, uint64 f, uint64 g, uint64 h, uint64 i, uint64 j, uint64 k);
+}";
+
+const NESTED: &[u8] = b"interface i {
+    typedef enum { x, y, z } e;
+    typedef int16 pair[2];
+    typedef struct { uint8 a; pair p; e c; } t;
+    message m(t s[n, 8], int8 z);
+}";
+
+const WIDE_WHOLE: Whole = Whole {
+    frags: &[
+        Frag {
+            words: [1, 2, 3, 4, 5, 6, 7],
+            control: 2,
+        },
+        Frag {
+            words: [0xffff_ffff_ffff_ffff, 0, 0, 0, 0, 0, 0],
+            control: 0,
+        },
+    ],
+    name: b"m",
+    text: b"m(1, 2, 3, 4, 5, 6, 7, 18446744073709551615)",
+};
+
+const APART_TEXT: &[u8] = b"m(-1, -2, 4660, -3, 1, 6, 7, 8, 9, 10, 11)";
+
+const APART_ONE: Whole = Whole {
+    frags: &[
+        Frag {
+            words: [
+                0xff,
+                0xffff_ffff_ffff_fffe,
+                0xffff_fffd_0000_1234,
+                1,
+                6,
+                7,
+                8,
+            ],
+            control: 2,
+        },
+        Frag {
+            words: [9, 10, 11, 0, 0, 0, 0],
+            control: 0,
+        },
+    ],
+    name: b"m",
+    text: APART_TEXT,
+};
+
+const APART_TWO: Whole = Whole {
+    frags: &[
+        Frag {
+            words: [0xffff_ffff_ffff_fffe, 6, 7, 8, 9, 10, 11],
+            control: 2,
+        },
+        Frag {
+            words: [0x01ff_1234_ffff_fffd, 0, 0, 0, 0, 0, 0],
+            control: 0,
+        },
+    ],
+    name: b"m",
+    text: APART_TEXT,
+};
+
+const NESTED_TEXT: &[u8] =
+    b"m([{1, [-1, 2], 0}, {2, [-2, 3], 1}, {3, [-300, 4], 2}, {4, [32767, -32768], 0}, {255, [0, -1], 2}], -7)";
+
+const NESTED_ONE: Whole = Whole {
+    frags: &[
+        Frag {
+            words: [
+                5,
+                0x2_ffff_0001,
+                0xfffe_0002_0000_0000,
+                0x1_0000_0003,
+                0x4_fed4_0003,
+                0x7fff_0004_0000_0002,
+                0x8000,
+            ],
+            control: 2,
+        },
+        Frag {
+            words: [0xffff_0000_00ff, 2, 0xf9, 0, 0, 0, 0],
+            control: 0,
+        },
+    ],
+    name: b"m",
+    text: NESTED_TEXT,
+};
+
+const NESTED_TWO: Whole = Whole {
+    frags: &[
+        Frag {
+            words: [
+                0xf9,
+                5,
+                0x2_ffff_0001,
+                0xfffe_0002_0000_0000,
+                0x1_0000_0003,
+                0x4_fed4_0003,
+                0x7fff_0004_0000_0002,
+            ],
+            control: 2,
+        },
+        Frag {
+            words: [0x8000, 0xffff_0000_00ff, 2, 0, 0, 0, 0],
+            control: 0,
+        },
+    ],
+    name: b"m",
+    text: NESTED_TEXT,
+};
+
+// What the first place answers to a fragment.
+fn taken(calls: &mut Reassemblies, frag: &Frag) -> Result<Taken, TakeFault> {
+    if calls.len() == 0 {
+        return Ok(Taken::Part);
+    }
+    calls.take(0, frag)
+}
+
+// As `taken`: at the second try where memory was refused at the first.
+fn taken_at_last(calls: &mut Reassemblies, frag: &Frag) -> Result<Taken, TakeFault> {
+    match taken(calls, frag) {
+        Err(TakeFault::Memory) => taken(calls, frag),
+        answer => answer,
+    }
+}
+
+fn finish(calls: &mut Reassemblies) {
+    if calls.len() > 0 {
+        calls.finish(0);
+    }
+}
+
+// Whether the first place takes all fragments but the last as parts of a call.
+fn takes_parts(calls: &mut Reassemblies, frags: &[Frag]) -> bool {
+    for frag in frags {
+        match taken_at_last(calls, frag) {
+            Ok(Taken::Part) => {}
+            _ => return false,
+        }
+    }
+    true
+}
+
+// Whether a fragment makes this call whole at the first place.
+fn ends_call(
+    alloc: Global,
+    calls: &mut Reassemblies,
+    frag: &Frag,
+    whole: &Whole,
+) -> Result<bool, AllocError> {
+    match taken_at_last(calls, frag) {
+        Ok(Taken::Whole(call)) => {
+            finish(calls);
+            is_printed(alloc, &call, whole.name, whole.text)
+        }
+        _ => Ok(false),
+    }
+}
+
+fn assembles(alloc: Global, calls: &mut Reassemblies, whole: &Whole) -> Result<bool, AllocError> {
+    let [first @ .., last] = whole.frags else {
+        return Ok(false);
+    };
+    if !takes_parts(calls, first) {
+        return Ok(false);
+    }
+    ends_call(alloc, calls, last, whole)
+}
+
+// A place for calls of an interface under a plan.
+fn place(alloc: Global, text: &[u8], plan: PlanNo) -> Result<Reassemblies, AllocError> {
+    let Ok(interface) = interface(alloc, text) else {
+        return Err(AllocError);
+    };
+    let program = compile(alloc, &interface, plan)?;
+    let most = fragments(program.plans());
+    let mut calls = Reassemblies::new(alloc);
+    calls.add(program, most)?;
+    Ok(calls)
+}
+
+// An interface's text, a plan, and the calls that are put together at one place, one after another.
+struct Assembled(&'static [u8], PlanNo, &'static [Whole]);
+
+const ASSEMBLED: &[Assembled] = &[
+    Assembled(MIXED, PlanNo::One, &[MIXED_ONE]),
+    Assembled(MIXED, PlanNo::Two, &[MIXED_TWO]),
+    Assembled(PAIRS, PlanNo::One, &[PAIRS_WHOLE, PAIRS_WHOLE]),
+    Assembled(BLOB, PlanNo::Two, &[BLOB_WHOLE, NOP_WHOLE, BLOB_WHOLE]),
+    Assembled(WIDE, PlanNo::One, &[WIDE_WHOLE, WIDE_WHOLE]),
+    Assembled(WIDE, PlanNo::Two, &[WIDE_WHOLE]),
+    Assembled(APART, PlanNo::One, &[APART_ONE, APART_ONE]),
+    Assembled(APART, PlanNo::Two, &[APART_TWO]),
+    Assembled(NESTED, PlanNo::One, &[NESTED_ONE]),
+    Assembled(NESTED, PlanNo::Two, &[NESTED_TWO, NESTED_TWO]),
+];
+
+impl Assembled {
+    fn is_so(&self, alloc: Global) -> Result<bool, AllocError> {
+        let mut calls = place(alloc, self.0, self.1)?;
+        for whole in self.2 {
+            if !assembles(alloc, &mut calls, whole)? {
+                return Ok(false);
+            }
+        }
+        Ok(true)
+    }
+}
+
+impl TextCase for Assembled {
+    fn holds(&self, alloc: Global) -> Result<bool, Fail> {
+        Ok(self.is_so(alloc)?)
+    }
+}
+
+#[test]
+fn calls_put_together(rt: HostRuntime) -> Result<(), Fail> {
+    all_hold(rt.alloc(), "calls put together", ASSEMBLED)
+}
+
+// A fragment for which memory is refused changes nothing: it ends its call at the second try.
+#[test]
+fn putting_together_without_memory(rt: HostRuntime) {
+    for row in ASSEMBLED {
+        if let Ok(held) = row.is_so(rt.alloc()) {
+            assert!(rt; held);
+        }
+    }
+}

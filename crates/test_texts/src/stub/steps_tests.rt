@@ -1,10 +1,10 @@
-//! The bytes that prepared code gives for packed tapes.
+//! The bytes that prepared code gives for packed tapes, and takes back.
 
 use crate::rows::{TextCase, all_hold};
 use crate::stub::verify_tests::verify_ops;
 use fl_stub::Op;
-use fl_stub_steps::prepare;
-use std::alloc::Global;
+use fl_stub_steps::{PreparedCode, prepare};
+use std::alloc::{AllocError, Global};
 use std::test::Fail;
 
 // Send code, a packed tape, and the bytes that are given.
@@ -68,6 +68,15 @@ const GIVEN: &[Given] = &[
     },
 ];
 
+// Whether code takes the tape back from its bytes with zeros behind them up to a multiple of 8, and leaves these.
+fn takes_back(alloc: Global, prepared: &PreparedCode, row: &Given) -> Result<bool, AllocError> {
+    let mut payload = Vec::from_slice(alloc, row.bytes)?;
+    payload.resize((row.bytes.len() + 7) / 8 * 8, 0)?;
+    let mut tape = Vec::new(alloc);
+    let left = prepared.take(&payload, &mut tape)?;
+    Ok(tape.as_slice() == row.tape && left.len() + row.bytes.len() == payload.len())
+}
+
 impl TextCase for Given {
     fn holds(&self, alloc: Global) -> Result<bool, Fail> {
         let Some(code) = verify_ops(alloc, self.ops)? else {
@@ -76,11 +85,11 @@ impl TextCase for Given {
         let prepared = prepare(alloc, &code)?;
         let mut bytes = Vec::new(alloc);
         prepared.give(self.tape, &mut bytes)?;
-        Ok(bytes.as_slice() == self.bytes)
+        Ok(bytes.as_slice() == self.bytes && takes_back(alloc, &prepared, self)?)
     }
 }
 
 #[test]
-fn prepared_code_gives_its_bytes(rt: HostRuntime) -> Result<(), Fail> {
+fn prepared_code_gives_and_takes_its_bytes(rt: HostRuntime) -> Result<(), Fail> {
     all_hold(rt.alloc(), "rows", GIVEN)
 }

@@ -1,7 +1,7 @@
 use Rattle.std.proofs.Common.{◌∙◌, ap, refl, true, false, Some, None}
 use Rattle.fl_core.specs.declared.core_job.CoreJob.TheVariants.{Open, Call, Reply}
 use Rattle.fl_core_run.specs.Run.{run_of}
-use Rattle.fl_core_run.proofs.Desking.{awaits_by}
+use Rattle.fl_core_run.proofs.AtProgress.{awaits_by}
 use Rattle.fl_core_run.proofs.dispatchers.awaits.Goals as goal
 
 pub next_job-requires : goal.next_job-requires

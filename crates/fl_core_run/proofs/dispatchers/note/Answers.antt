@@ -5,7 +5,7 @@ use Rattle.fl_core_run.specs.LogEntries.{NotesTurned}
 use Rattle.fl_core_run.specs.EndProgress.{with_handled}
 use Rattle.fl_core_run.specs.Run.{run_of}
 use Rattle.fl_core_run.specs.Inside.{OfProgress}
-use Rattle.fl_core_run.proofs.Desking.{no_progress, some_within, at_progress}
+use Rattle.fl_core_run.proofs.AtProgress.{no_progress, some_within, at_progress}
 use Rattle.fl_core_run.proofs.Stopping.{call_left}
 use Rattle.fl_core_run.proofs.dispatchers.note.Goals as goal
 

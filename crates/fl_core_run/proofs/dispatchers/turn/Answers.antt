@@ -9,8 +9,8 @@ use Rattle.fl_core_run.proofs.Stopping.{on_err, handled_left, taken, left_turn}
 use Rattle.fl_core_run.proofs.Turning.{same_progresses}
 use Rattle.fl_core_run.proofs.dispatchers.turn.Goals as goal
 
-pub sound_at-requires : goal.sound_at-requires
-sound_at-requires g c = record { there = c.in-Some.ensures.there }
+pub law_sound_at-requires : goal.law_sound_at-requires
+law_sound_at-requires g c = record { there = c.in-Some.ensures.there }
 
 pub awaits-requires : goal.awaits-requires
 awaits-requires g c = record { there = c.progress_of-progress.ensures.within }
@@ -56,8 +56,8 @@ returns-clause-turns g c =
         run_of c.turn_over.new.run,
         (c.in-Some.at.end, c.name-name.ensures.place, c.in-Some.ensures.is_due, c.in_ok-answer.ensures.turns),
         notes c.name-name.result found,
-        c.sound.ensures.sound,
-        c.sound_at.ensures.sound c.name-name.result c.name-name.ensures.place,
+        c.law_sound.ensures.sound,
+        c.law_sound_at.ensures.sound c.name-name.result c.name-name.ensures.place,
       ),
     )) c.note.ensures.notes
 

@@ -18,5 +18,5 @@ returns-in-None g c = record { acks = subst (λ (o : Option LentRingEnd). AcksFr
 pub returns-in-Some : goal.returns-in-Some
 returns-in-Some g c = record {
   acks = acked (ways g.S.PutSide.puts g.S.TakeSide.takes g.S.TakeSide.front) (run_of c.args.run.now) c.in-Some.ring_end.side c.index_mut.result.now c.ack.new.from
-      c.in-Some.ensures.lent c.index_mut.ensures.value c.sound.ensures.sound c.args.name c.in-Some.ring_end.end c.ack.result c.in-Some.ensures.ring_end c.in-Some.ensures.place c.ack.ensures.acks;
+      c.in-Some.ensures.lent c.index_mut.ensures.value c.law_sound.ensures.sound c.args.name c.in-Some.ring_end.end c.ack.result c.in-Some.ensures.ring_end c.in-Some.ensures.place c.ack.ensures.acks;
 }

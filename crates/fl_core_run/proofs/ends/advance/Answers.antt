@@ -1,7 +1,7 @@
 use Rattle.std.proofs.Common.{◌<◌, length, arith}
 use Rattle.fl_core_run.specs.EndProgress.{advanced}
 use Rattle.fl_core_run.specs.Run.{run_of}
-use Rattle.fl_core_run.proofs.Desking.{no_progress, at_progress, left_there, left_at}
+use Rattle.fl_core_run.proofs.AtProgress.{no_progress, at_progress, left_there, left_at}
 use Rattle.fl_core_run.proofs.ends.advance.Goals as goal
 
 pub index_mut-requires : goal.index_mut-requires

@@ -1,6 +1,6 @@
 use Rattle.std.proofs.Common.{◌<◌, length, Some, None, arith}
 use Rattle.fl_core_run.specs.Run.{run_of, next_at}
-use Rattle.fl_core_run.proofs.Desking.{no_job, some_within, next_by, has_left, job_read, no_job_read, if_some}
+use Rattle.fl_core_run.proofs.AtProgress.{no_job, some_within, next_by, has_left, job_read, no_job_read, if_some}
 use Rattle.fl_core_run.proofs.ends.next_job.Goals as goal
 
 pub returns-in-None-clause-none : goal.returns-in-None-clause-none

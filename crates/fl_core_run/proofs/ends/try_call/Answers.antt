@@ -16,14 +16,14 @@ returns-then-is_busy g c = record {
   calls = calls_nothing (ways g.S.PutSide.puts g.S.TakeSide.takes g.S.TakeSide.front) c.args.name c.args.next.now (run_of c.args.run.now) c.in-Some.e (with_parts c.end.result.now c.end.ensures.end.0.end.parts)
       (sym c.place.ensures.place ∙ c.in-Some.is)
       (subst (λ (b : TheBoard). Holds b c.in-Some.e (λ seat. with_parts c.end.result.now c.end.ensures.end.0.end.parts ≡ seat.end)) c.board.ensures.board (c.end.ensures.end.0, c.end.ensures.end.1, sym c.end.ensures.end.2))
-      (sym c.is_busy.ensures.busy ∙ c.if-is_busy.true) c.sound.ensures.sound (c.sound_at.ensures.sound c.args.name (sym c.in-Some.ensures.place));
+      (sym c.is_busy.ensures.busy ∙ c.if-is_busy.true) c.law_sound.ensures.sound (c.law_sound_at.ensures.sound c.args.name (sym c.in-Some.ensures.place));
   place = record { is = sym c.in-Some.ensures.place; within = c.in-Some.ensures.within };
   kept = tt;
   accepts = tt;
 }
 
-pub sound_at-requires : goal.sound_at-requires
-sound_at-requires g c = record { there = c.in-Some.ensures.within }
+pub law_sound_at-requires : goal.law_sound_at-requires
+law_sound_at-requires g c = record { there = c.in-Some.ensures.within }
 
 pub end-requires : goal.end-requires
 end-requires g c = subst (λ (b : TheBoard). c.in-Some.e < length b.seats) (sym c.board.ensures.board) c.in-Some.ensures.within
@@ -52,8 +52,8 @@ returns-in-None-clause-place g c = record { is = sym c.in-None.ensures.place; wi
 pub returns-in-Ok-clause-calls : goal.returns-in-Ok-clause-calls
 returns-in-Ok-clause-calls g c =
     called (ways g.S.PutSide.puts g.S.TakeSide.takes g.S.TakeSide.front) c.args.name (run_of c.args.run.now) (run_of c.advance.new.run) c.in-Some.e c.call-answer.new.self
-    c.call-answer.result c.in-Some.ensures.place c.sound.ensures.sound (c.sound_at.ensures.sound c.args.name (sym c.in-Some.ensures.place)) c.args.next.now
-    c.call-answer.ensures.calls (sym c.is_memory.ensures.memory ∙ c.if-is_memory.false)
+    c.call-answer.result c.in-Some.ensures.place c.law_sound.ensures.sound (c.law_sound_at.ensures.sound c.args.name (sym c.in-Some.ensures.place))
+    c.args.next.now c.call-answer.ensures.calls (sym c.is_memory.ensures.memory ∙ c.if-is_memory.false)
     (subst (λ (a : Result (Unit {0}) EndFault). NotesCalled c.args.name a (record (run_of c.args.run.now) { core = c.call-answer.new.self }) (run_of c.advance.new.run))
     (sym c.in-Ok.is) (c.advance.ensures.advanced c.args.name c.requires.found))
 
@@ -67,8 +67,8 @@ returns-in-Ok-clause-place g c =
 pub returns-in-Err-clause-calls : goal.returns-in-Err-clause-calls
 returns-in-Err-clause-calls g c =
     called (ways g.S.PutSide.puts g.S.TakeSide.takes g.S.TakeSide.front) c.args.name (run_of c.args.run.now) _ c.in-Some.e c.call-answer.new.self
-    c.call-answer.result c.in-Some.ensures.place c.sound.ensures.sound (c.sound_at.ensures.sound c.args.name (sym c.in-Some.ensures.place)) c.args.next.now
-    c.call-answer.ensures.calls (sym c.is_memory.ensures.memory ∙ c.if-is_memory.false)
+    c.call-answer.result c.in-Some.ensures.place c.law_sound.ensures.sound (c.law_sound_at.ensures.sound c.args.name (sym c.in-Some.ensures.place))
+    c.args.next.now c.call-answer.ensures.calls (sym c.is_memory.ensures.memory ∙ c.if-is_memory.false)
     (subst (λ (a : Result (Unit {0}) EndFault). NotesCalled c.args.name a (record (run_of c.args.run.now) { core = c.call-answer.new.self })
     (record (run_of c.args.run.now) { core = c.call-answer.new.self })) (sym c.in-Err.is) refl)
 

@@ -4,8 +4,8 @@ use Rattle.fl_core_run.specs.Steps.{reply_rule, RulesAt}
 use Rattle.fl_core_run.proofs.Calling.{ruled, placed_still, placed_then}
 use Rattle.fl_core_run.proofs.ends.try_rule.Goals as goal
 
-pub sound_at-requires : goal.sound_at-requires
-sound_at-requires g c = record { there = c.in-Some.ensures.within }
+pub law_sound_at-requires : goal.law_sound_at-requires
+law_sound_at-requires g c = record { there = c.in-Some.ensures.within }
 
 pub reply_rule-requires : goal.reply_rule-requires
 reply_rule-requires g c = c.in-Some.ensures.within
@@ -22,7 +22,7 @@ returns-in-None g c = record {
 pub returns-in-Some : goal.returns-in-Some
 returns-in-Some g c = record {
   rules = ruled (ways g.S.PutSide.puts g.S.TakeSide.takes g.S.TakeSide.front) c.args.name (run_of c.args.run.now) (run_of c.advance.new.run) c.in-Some.e c.reply_rule.new.self
-      c.reply_rule.result c.in-Some.ensures.place c.sound.ensures.sound (c.sound_at.ensures.sound c.args.name (sym c.in-Some.ensures.place)) c.args.msg c.args.reply
+      c.reply_rule.result c.in-Some.ensures.place c.law_sound.ensures.sound (c.law_sound_at.ensures.sound c.args.name (sym c.in-Some.ensures.place)) c.args.msg c.args.reply
       c.reply_rule.ensures.sets (c.advance.ensures.advanced c.args.name c.requires.found);
   place = placed_then (record (run_of c.args.run.now) { core = c.reply_rule.new.self }) (run_of c.advance.new.run) c.args.name (Some c.in-Some.e)
       (c.advance.ensures.advanced c.args.name c.requires.found)

@@ -1,14 +1,14 @@
 use Rattle.std.proofs.Common.{length}
 use Rattle.fl_core_run.specs.Run.{ways, run_of}
-use Rattle.fl_core_run.proofs.Desking.{some_within}
+use Rattle.fl_core_run.proofs.AtProgress.{some_within}
 use Rattle.fl_core_run.proofs.Writing.{no_end, none_lent, wrote_there}
 use Rattle.fl_core_run.proofs.ends.write.Goals as goal
 
 pub lent_post-requires : goal.lent_post-requires
 lent_post-requires g c = record { there = some_within c.args.place c.in-Some.e (length c.args.run.now.core.board.seats) c.in-Some.is c.requires.there }
 
-pub sound_at-requires : goal.sound_at-requires
-sound_at-requires g c = record { there = some_within c.args.place c.in-Some.e (length c.args.run.now.core.board.seats) c.in-Some.is c.requires.there }
+pub law_sound_at-requires : goal.law_sound_at-requires
+law_sound_at-requires g c = record { there = some_within c.args.place c.in-Some.e (length c.args.run.now.core.board.seats) c.in-Some.is c.requires.there }
 
 pub write_to-answer-requires : goal.write_to-answer-requires
 write_to-answer-requires g c = record {
@@ -25,11 +25,13 @@ returns-in-None-lent_post g c = record { writes = none_lent (ways g.S.PutSide.pu
 pub returns-then-matches : goal.returns-then-matches
 returns-then-matches g c = record {
   writes = wrote_there (ways g.S.PutSide.puts g.S.TakeSide.takes g.S.TakeSide.front) (run_of c.args.run.now) c.args.place c.in-Some.e c.in-Some.is c.in-Some-lent_post.post c.write_to-answer.result
-      (run_of c.write_to-answer.new.run) c.in-Some-lent_post.ensures.post c.write_to-answer.ensures.wrote c.sound.ensures.sound c.sound_at.ensures.sound;
+      (run_of c.write_to-answer.new.run) c.in-Some-lent_post.ensures.post c.write_to-answer.ensures.wrote c.law_sound.ensures.sound
+      c.law_sound_at.ensures.sound;
 }
 
 pub returns-else-matches : goal.returns-else-matches
 returns-else-matches g c = record {
   writes = wrote_there (ways g.S.PutSide.puts g.S.TakeSide.takes g.S.TakeSide.front) (run_of c.args.run.now) c.args.place c.in-Some.e c.in-Some.is c.in-Some-lent_post.post c.write_to-answer.result
-      (run_of c.write_to-answer.new.run) c.in-Some-lent_post.ensures.post c.write_to-answer.ensures.wrote c.sound.ensures.sound c.sound_at.ensures.sound;
+      (run_of c.write_to-answer.new.run) c.in-Some-lent_post.ensures.post c.write_to-answer.ensures.wrote c.law_sound.ensures.sound
+      c.law_sound_at.ensures.sound;
 }

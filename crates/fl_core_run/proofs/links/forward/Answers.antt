@@ -11,13 +11,13 @@ pub hand_out-requires-clause-foreseen : goal.hand_out-requires-clause-foreseen
 hand_out-requires-clause-foreseen g c =
     foresees (ways g.S.PutSide.puts g.S.TakeSide.takes g.S.TakeSide.front) c.in-Some.n c.args.link c.look-found.result (run_of c.args.run.now) _
     (looks (ways g.S.PutSide.puts g.S.TakeSide.takes g.S.TakeSide.front) (run_of c.args.run.now) c.in-Some.n c.index_mut.result.now c.look-found.new.from
-    c.in-Some.ensures.side c.index_mut.ensures.value c.sound.ensures.sound c.args.link c.look-found.new.self c.look-found.result c.look-found.ensures.looks)
+    c.in-Some.ensures.side c.index_mut.ensures.value c.law_sound.ensures.sound c.args.link c.look-found.new.self c.look-found.result c.look-found.ensures.looks)
 
 pub returns-in-Some-clause-forwards : goal.returns-in-Some-clause-forwards
 returns-in-Some-clause-forwards g c =
     on_ok_weaker c.hand_out.result
     (forwarded (ways g.S.PutSide.puts g.S.TakeSide.takes g.S.TakeSide.front) (run_of c.args.run.now) c.in-Some.n c.index_mut.result.now c.look-found.new.from
-    c.in-Some.ensures.side c.index_mut.ensures.value c.sound.ensures.sound c.args.link c.look-found.new.self c.look-found.result c.look-found.ensures.looks
+    c.in-Some.ensures.side c.index_mut.ensures.value c.law_sound.ensures.sound c.args.link c.look-found.new.self c.look-found.result c.look-found.ensures.looks
     (run_of c.hand_out.new.run) c.in-Some.ensures.link_side)
     c.hand_out.ensures.hands_out
 
@@ -25,6 +25,6 @@ pub returns-in-Some-clause-left : goal.returns-in-Some-clause-left
 returns-in-Some-clause-left g c =
     on_err_weaker c.hand_out.result
     (left (ways g.S.PutSide.puts g.S.TakeSide.takes g.S.TakeSide.front) (run_of c.args.run.now) c.in-Some.n c.index_mut.result.now c.look-found.new.from
-    c.in-Some.ensures.side c.index_mut.ensures.value c.sound.ensures.sound c.args.link c.look-found.new.self c.look-found.result c.look-found.ensures.looks
+    c.in-Some.ensures.side c.index_mut.ensures.value c.law_sound.ensures.sound c.args.link c.look-found.new.self c.look-found.result c.look-found.ensures.looks
     (run_of c.hand_out.new.run) c.in-Some.ensures.link_side)
     c.hand_out.ensures.left

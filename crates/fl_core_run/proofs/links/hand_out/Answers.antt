@@ -29,16 +29,16 @@ returns-in-Ok-Acknowledged-clause-hands_out g c = handed_out (ways g.S.PutSide.p
 
 pub returns-in_ok-answer-in-Ok-Message-clause-hands_out : goal.returns-in_ok-answer-in-Ok-Message-clause-hands_out
 returns-in_ok-answer-in-Ok-Message-clause-hands_out g c = handed_out (ways g.S.PutSide.puts g.S.TakeSide.takes g.S.TakeSide.front) c.args.n c.args.link c.args.found c.in-Ok-Message.field-0 (Message c.in-Ok-Message.frag) (run_of c.args.run.now) c.in-Ok-Message.is (rw c.in-Ok-Message.is at c.in-Ok-Message.field-0-is) (run_of c.note.new.run)
-    (c.in_ok-answer-in-Ok-Message.answer, (run_of c.hear.new.run, c.in_ok-answer-in-Ok-Message.ensures.heard, c.note.ensures.notes, c.sound.ensures.sound, tt), c.in_ok-answer-in-Ok-Message.ensures.memory)
+    (c.in_ok-answer-in-Ok-Message.answer, (run_of c.hear.new.run, c.in_ok-answer-in-Ok-Message.ensures.heard, c.note.ensures.notes, c.law_sound.ensures.sound, tt), c.in_ok-answer-in-Ok-Message.ensures.memory)
 
 pub returns-then-to-len-clause-hands_out : goal.returns-then-to-len-clause-hands_out
 returns-then-to-len-clause-hands_out g c = handed_out (ways g.S.PutSide.puts g.S.TakeSide.takes g.S.TakeSide.front) c.args.n c.args.link c.args.found c.in-Ok-Onward.field-0 (Onward c.in-Ok-Onward.frag c.in-Ok-Onward.to c.in-Ok-Onward.circuit) (run_of c.args.run.now) c.in-Ok-Onward.is (rw c.in-Ok-Onward.is at c.in-Ok-Onward.field-0-is) (run_of c.cross.new.run)
-    (inl (c.cross.result, (run_of c.cross.new.run, c.cross.ensures.passed, refl, c.sound.ensures.sound, tt)))
+    (inl (c.cross.result, (run_of c.cross.new.run, c.cross.ensures.passed, refl, c.law_sound.ensures.sound, tt)))
 
 pub returns-then-matches-clause-hands_out : goal.returns-then-matches-clause-hands_out
 returns-then-matches-clause-hands_out g c = handed_out (ways g.S.PutSide.puts g.S.TakeSide.takes g.S.TakeSide.front) c.args.n c.args.link c.args.found c.in-Ok-Arrival.field-0 (Arrival c.in-Ok-Arrival.frag c.in-Ok-Arrival.end) (run_of c.args.run.now) c.in-Ok-Arrival.is (rw c.in-Ok-Arrival.is at c.in-Ok-Arrival.field-0-is) (run_of c.arrive-outcome.new.run)
-    (c.arrive-outcome.result, (run_of c.arrive-outcome.new.run, c.arrive-outcome.ensures.arrived, refl, c.sound.ensures.sound, tt))
+    (c.arrive-outcome.result, (run_of c.arrive-outcome.new.run, c.arrive-outcome.ensures.arrived, refl, c.law_sound.ensures.sound, tt))
 
 pub returns-else-matches-clause-hands_out : goal.returns-else-matches-clause-hands_out
 returns-else-matches-clause-hands_out g c = handed_out (ways g.S.PutSide.puts g.S.TakeSide.takes g.S.TakeSide.front) c.args.n c.args.link c.args.found c.in-Ok-Arrival.field-0 (Arrival c.in-Ok-Arrival.frag c.in-Ok-Arrival.end) (run_of c.args.run.now) c.in-Ok-Arrival.is (rw c.in-Ok-Arrival.is at c.in-Ok-Arrival.field-0-is) (run_of c.arrive-outcome.new.run)
-    (c.arrive-outcome.result, (run_of c.arrive-outcome.new.run, c.arrive-outcome.ensures.arrived, refl, c.sound.ensures.sound, tt))
+    (c.arrive-outcome.result, (run_of c.arrive-outcome.new.run, c.arrive-outcome.ensures.arrived, refl, c.law_sound.ensures.sound, tt))

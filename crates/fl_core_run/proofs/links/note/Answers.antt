@@ -1,7 +1,7 @@
 use Rattle.std.proofs.Common.{refl, sym}
 use Rattle.fl_core_run.specs.EndProgress.{with_refusal, progress_place}
 use Rattle.fl_core_run.specs.Run.{run_of}
-use Rattle.fl_core_run.proofs.Desking.{at_progress}
+use Rattle.fl_core_run.proofs.AtProgress.{at_progress}
 use Rattle.fl_core_run.proofs.Dealing.{heard_refused}
 use Rattle.fl_core_run.proofs.links.note.Goals as goal
 

@@ -10,5 +10,5 @@ returns-in-None g c = record { says = subst (λ (o : Option ℕ). SaysOver (ways
 pub returns-in-Some : goal.returns-in-Some
 returns-in-Some g c = record {
   says = said (ways g.S.PutSide.puts g.S.TakeSide.takes g.S.TakeSide.front) (run_of c.args.run.now) c.in-Some.n c.index_mut.result.now c.monitor_write.new.out
-      c.in-Some.ensures.side c.index_mut.ensures.value c.sound.ensures.sound c.args.link c.monitor_write.new.self c.monitor_write.result c.in-Some.ensures.link_side c.monitor_write.ensures.writes;
+      c.in-Some.ensures.side c.index_mut.ensures.value c.law_sound.ensures.sound c.args.link c.monitor_write.new.self c.monitor_write.result c.in-Some.ensures.link_side c.monitor_write.ensures.writes;
 }

@@ -13,5 +13,5 @@ returns-in-None g c = record { tells = subst (λ (o : Option ℕ). TellsOver (wa
 pub returns-in-Some : goal.returns-in-Some
 returns-in-Some g c = record {
   tells = told (ways g.S.PutSide.puts g.S.TakeSide.takes g.S.TakeSide.front) (run_of c.args.run.now) c.in-Some.n c.index_mut.result.now c.monitor_ack.new.from
-      c.in-Some.ensures.side c.index_mut.ensures.value c.sound.ensures.sound c.args.link c.monitor_ack.result c.in-Some.ensures.link_side c.monitor_ack.ensures.acks;
+      c.in-Some.ensures.side c.index_mut.ensures.value c.law_sound.ensures.sound c.args.link c.monitor_ack.result c.in-Some.ensures.link_side c.monitor_ack.ensures.acks;
 }

@@ -21,7 +21,8 @@ pub returns-in-Err-clause-opens : goal.returns-in-Err-clause-opens
 returns-in-Err-clause-opens g c =
     refused_before (ways g.S.PutSide.puts g.S.TakeSide.takes g.S.TakeSide.front) (run_of c.args.run.now) (run_of c.note.new.run) c.args.progress c.args.request.now c.in-Err.fault
     (may_ask (run_of c.args.run.now) c.args.request.now) c.if-not-may_ask.ensures.may
-    (may (run_of c.args.run.now) c.args.request.now c.if-not-may_ask.ensures.may).program c.in-Err.ensures.refused c.note.ensures.notes c.sound.ensures.sound
+    (may (run_of c.args.run.now) c.args.request.now c.if-not-may_ask.ensures.may).program c.in-Err.ensures.refused c.note.ensures.notes
+    c.law_sound.ensures.sound
 
 pub copy-requires : goal.copy-requires
 copy-requires g c = (may (run_of c.args.run.now) c.args.request.now c.if-not-may_ask.ensures.may).program
@@ -58,7 +59,7 @@ returns-clause-opens g c = λ name at. subst (λ (b : Bool). OpensIf (ways g.S.P
       rest = refl;
     },
     c.note-2.ensures.notes name at,
-    c.sound.ensures.sound,
+    c.law_sound.ensures.sound,
     tt,
   ),
   sym c.is_memory.ensures.memory ∙ c.if-is_memory.false,

@@ -1,7 +1,7 @@
 use Rattle.std.proofs.Common.{◌<◌, ◌∙◌, length, sym, ap, subst, arith}
 use Rattle.fl_core_run.specs.EndProgress.{TheEndProgress, advanced, with_refusal}
 use Rattle.fl_core_run.specs.Run.{run_of}
-use Rattle.fl_core_run.proofs.Desking.{no_progress, at_progress, left_there, left_at}
+use Rattle.fl_core_run.proofs.AtProgress.{no_progress, at_progress, left_there, left_at}
 use Rattle.fl_core_run.proofs.opening.refuse.Goals as goal
 
 pub index_mut-at-requires : goal.index_mut-at-requires

@@ -1,7 +1,7 @@
 use Rattle.std.proofs.Common.{◌∙◌, sym}
 use Rattle.fl_core_run.specs.EndProgress.{TheEndProgress, progress_place}
 use Rattle.fl_core_run.specs.Run.{run_of}
-use Rattle.fl_core_run.proofs.Desking.{read_at}
+use Rattle.fl_core_run.proofs.AtProgress.{read_at}
 use Rattle.fl_core_run.proofs.opening_status.refusal_at.Goals as goal
 
 pub returns-in-Some : goal.returns-in-Some

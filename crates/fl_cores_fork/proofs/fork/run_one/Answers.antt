@@ -15,11 +15,11 @@ returns-in-Ok g c = record {
     left = subst (λ (run : RunningCore SharedSide).
         IsLeftSound (let o : TheFinishedCore = record { run = run_of run; run_seat = run_seat_of c.core_run.new.run_seat; part = c.in-Ok.part } in o))
         c.deref.ensures (record {
-          core = c.sound.ensures.core;
-          board = c.sound.ensures.board;
-          outboxes = c.sound.ensures.outboxes;
-          ends = c.sound.ensures.ends;
-          table = c.sound.ensures.table;
+          core = c.law_sound.ensures.core;
+          board = c.law_sound.ensures.board;
+          outboxes = c.law_sound.ensures.outboxes;
+          ends = c.law_sound.ensures.ends;
+          table = c.law_sound.ensures.table;
         });
   };
 }

@@ -4,10 +4,10 @@ pub returns-in-Ok : goal.returns-in-Ok
 returns-in-Ok g c = record {
   ran = c.in-Ok.ensures.ran;
   left = record {
-    core = c.sound.ensures.core;
-    board = c.sound.ensures.board;
-    outboxes = c.sound.ensures.outboxes;
-    ends = c.sound.ensures.ends;
-    table = c.sound.ensures.table;
+    core = c.law_sound.ensures.core;
+    board = c.law_sound.ensures.board;
+    outboxes = c.law_sound.ensures.outboxes;
+    ends = c.law_sound.ensures.ends;
+    table = c.law_sound.ensures.table;
   };
 }

@@ -6,7 +6,7 @@ use Rattle.fl_core.specs.View.{TheCore}
 use Rattle.fl_monitor.specs.Monitors.{first_link}
 use Rattle.fl_cores_file.specs.Views.{request_of}
 use Rattle.fl_cores_jobs.specs.Faults.{path_fault, link_fault, RefusedFor}
-use Rattle.fl_cores_jobs.proofs.Wishing.{known_by, path_refused, link_refused, none_refused}
+use Rattle.fl_cores_jobs.proofs.AskedFor.{known_by, path_refused, link_refused, none_refused}
 use Rattle.fl_cores_jobs.proofs.opening.ask.Goals as goal
 
 pub returns-in_err-path-clause-refused : goal.returns-in_err-path-clause-refused

@@ -1,6 +1,6 @@
 use Rattle.std.proofs.Common.{◌≤◌, length-set, get_or, ◌∙◌, arith}
 use Rattle.fl_base.specs.Numbered.{core_id}
-use Rattle.fl_cores_jobs.proofs.Wishing.{path_small, next_id}
+use Rattle.fl_cores_jobs.proofs.AskedFor.{path_small, next_id}
 use Rattle.fl_cores_jobs.proofs.opening.path_of.Goals as goal
 
 pub overflow_cast-ids : goal.overflow_cast-ids

@@ -1,6 +1,6 @@
 use Rattle.std.proofs.Common.{◌∙◌, ap}
 use Rattle.fl_cores_jobs.specs.Requested.{cores_on}
-use Rattle.fl_cores_jobs.proofs.Wishing.{on_ids}
+use Rattle.fl_cores_jobs.proofs.AskedFor.{on_ids}
 use Rattle.fl_cores_jobs.proofs.opening.path_over.Goals as goal
 
 pub returns-clause-route : goal.returns-clause-route

@@ -20,6 +20,6 @@ returns c =
     let all : c.loop-e.e ≡ c.ends-e-end.result = omega (arith, low, high) in
     let many : c.loop-e.e ≡ length core.board.seats = all ∙ c.ends-e-end.ensures.ends ∙ ap (λ (b : TheBoard). length b.seats) c.board.ensures.board in
     record {
-      owns = owns_queues core c.sound.ensures.sound c.args.k c.args.owners.now.items c.loop-e.owners.items
+      owns = owns_queues core c.law_sound.ensures.sound c.args.k c.args.owners.now.items c.loop-e.owners.items
           (subst (λ (n : ℕ). Owns (Below (UsesQueue core) n) c.args.k c.args.owners.now.items c.loop-e.owners.items) many c.loop-e.invariant);
     }

@@ -10,7 +10,7 @@ loop-number-preserved c = c.in_ok-push.ensures.items ∙ links_more c.loop-numbe
 pub returns : goal.returns
 returns c =
     let core = c.args.core.now in
-    let link_sides = c.sound.ensures.sound.link_sides in
+    let link_sides = c.law_sound.ensures.sound.link_sides in
     let table : length c.circuits.result.now.links ≡ length core.monitor.circuits.links =
     ap (λ (t : TheCircuits). length t.links) c.circuits.ensures.circuits ∙ ap (λ (m : TheMonitor). length m.circuits.links) c.monitor.ensures.monitor in
     record {

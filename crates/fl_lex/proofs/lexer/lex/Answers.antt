@@ -1,7 +1,8 @@
-use Rattle.std.proofs.Common.{◌≡◌, length, map, subst, refl, sym, arith, eqb-true}
+use Rattle.std.proofs.Common.{◌≡◌, ℕ, List, length, map, subst, refl, sym, arith, eqb-true}
 use Rattle.std.proofs.lemmas.List.{nil_from_length}
 use Rattle.std.proofs.lemmas.Result.{err_from_is_err_and}
-use Rattle.fl_lex.specs.Spelling.{Spells}
+use Rattle.fl_lex.specs.Spelling.{IsItem, Spells}
+use Rattle.fl_lex.specs.Item.{item_of, ItemFits, Cuts}
 use Rattle.fl_lex.specs.Token.{token_of}
 use Rattle.fl_lex.proofs.Lexing.{goes_on, still_fits, fault_ends}
 use Rattle.fl_lex.proofs.Turns.{tokens_in}
@@ -13,6 +14,17 @@ returns-in_err-piece-clause-outcome c =
     let passed = err_from_is_err_and c.from_residual.result c.from_residual.ensures.1 in
     let so_far = c.loop-rest.invariant in
     rw (passed.1, passed.2) (fault_ends _ _ _ c.if-text-gt-MAX_TEXT.false so_far.within so_far.spelled so_far.fits _ _ refl c.in_err-piece.ensures.found)
+
+pub keep-requires : goal.keep-requires
+keep-requires c =
+    let cut : Cuts c.loop-rest.rest.now (item_of c.in_ok-piece.piece.kind) c.in_ok-piece.piece.length = c.in_ok-piece.ensures.found in
+    let front = sym c.split_at.ensures.front in
+    record {
+      right = record {
+        is_item = subst (λ (bytes : List ℕ). IsItem (item_of c.in_ok-piece.piece.kind) bytes) front cut.begins.is_item;
+        fits = subst (λ (bytes : List ℕ). ItemFits (item_of c.in_ok-piece.piece.kind) bytes) front cut.fits;
+      };
+    }
 
 -- one more item
 pub loop-rest-preserved : goal.loop-rest-preserved

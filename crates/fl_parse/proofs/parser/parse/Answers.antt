@@ -4,7 +4,7 @@ use Rattle.fl_lex.specs.Token.{token_of, tokens_of}
 use Rattle.fl_parse.specs.Tree.{tree_of}
 use Rattle.fl_parse.specs.Reading.{Fails, body_at}
 use Rattle.fl_parse.proofs.Outcomes.{empty_rest, some_rest, stopped_body}
-use Rattle.fl_parse.specs.Grammar.{HasHead}
+use Rattle.fl_parse.specs.Grammar.{FaultAtToken, HasHead}
 use Rattle.fl_parse.proofs.Heads.{memory_stop}
 use Rattle.fl_parse.proofs.parser.parse.Goals as goal
 
@@ -28,5 +28,7 @@ pub returns-clause-outcome : goal.returns-clause-outcome
 returns-clause-outcome c =
     let all : map token_of c.as_slice.result.now ≡ map token_of c.args.tokens.now.items.items = ap (λ (xs : List Token). map token_of xs) c.as_slice.ensures.value in
     let read = sym (ap body_at all) ∙ c.in-Ok.ensures.reads in
-    inl (some_rest (map token_of c.args.tokens.now.items.items) (tree_of c.in-Ok.found.0) (map token_of c.in-Ok.found.1.now)
-    c.skip_semicolon.result.now _ read c.in-len1-up.len_at_least c.skip_semicolon.ensures.rest)
+    let tokens = map token_of c.args.tokens.now.items.items in
+    inl (subst (λ (t : Token). FaultAtToken tokens 8 t.at) (sym c.first-item.is)
+    (some_rest tokens (tree_of c.in-Ok.found.0) (map token_of c.in-Ok.found.1.now) c.skip_semicolon.result.now c.first-item.result read c.in-len1-up.len_at_least
+    c.skip_semicolon.ensures.rest))

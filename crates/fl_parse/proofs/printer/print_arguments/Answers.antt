@@ -1,4 +1,4 @@
-use Rattle.std.proofs.Common.{◌-◌, ◌++◌, length, take, drop, codes, refl, arith}
+use Rattle.std.proofs.Common.{◌-◌, ◌++◌, length, take, drop, codes, arith}
 use Rattle.fl_parse.specs.Tree.{argument_of}
 use Rattle.fl_parse.specs.Printed.{argument_text}
 use Rattle.fl_parse.proofs.Texts.{written_on, written_all, two_pieces}
@@ -8,7 +8,7 @@ pub loop-argument-preserved : goal.loop-argument-preserved
 loop-argument-preserved c =
     let others = take (length c.args.arguments.now - 1) (drop 1 c.args.arguments.now) in
     let more = two_pieces _ (codes ",") _ _ _ c.in_ok-push.ensures.items c.in_ok-print_argument-2.ensures.printed in
-    written_on argument_of (λ y. codes "," ++ argument_text y) others c.loop-argument.argument-index _ _ _ _ _ (omega arith) refl c.loop-argument.invariant more
+    written_on argument_of (λ y. codes "," ++ argument_text y) others c.loop-argument.argument-index _ _ _ _ _ (omega arith) c.argument-item.is c.loop-argument.invariant more
 
 pub returns : goal.returns
 returns c =

@@ -1,25 +1,25 @@
 use Rattle.std.proofs.Common.{map}
-use Rattle.std.proofs.lemmas.Result.{err_from_is_err_and}
 use Rattle.fl_interface.specs.Interface.{interface_of}
 use Rattle.fl_value_data.specs.Value.{datum_of}
-use Rattle.fl_value.proofs.Round.{only_resolved, only_refused}
-use Rattle.fl_value.specs.CallText.{BeginsCall}
-use Rattle.fl_value.proofs.CallStarts.{begins_spelled, wants_if}
+use Rattle.fl_value.specs.declared.fault.ValueFault.TheVariants.{NotACall}
+use Rattle.fl_value.proofs.Round.{only_resolved, only_read}
+use Rattle.fl_value.proofs.Resolved.{wants_resolved}
 use Rattle.fl_value.proofs.calls.read_call.Goals as goal
 
-pub returns-in_err-text-clause-only : goal.returns-in_err-text-clause-only
-returns-in_err-text-clause-only c =
-    let p = err_from_is_err_and c.from_residual.result c.from_residual.ensures.1 in
-    rw (p.1, p.2) (only_refused (interface_of c.args.interface.now) c.args.bytes.now c.in_err-text.field-0.0 c.in_err-text.ensures.fault)
+pub returns-in-Ok-clause-only : goal.returns-in-Ok-clause-only
+returns-in-Ok-clause-only c =
+    only_resolved (interface_of c.args.interface.now) c.args.bytes.now c.in-Ok.name.now (map datum_of c.in-Ok.args.items) c.in-Ok.ensures.found c.resolve_named.result
+    c.resolve_named.ensures.exact
 
-pub returns-clause-only : goal.returns-clause-only
-returns-clause-only c = only_resolved (interface_of c.args.interface.now) c.args.bytes.now c.in_ok-text.text.name.bytes.items (map datum_of c.in_ok-text.text.args.items) c.in_ok-text.ensures.found c.resolve.result c.resolve.ensures.exact
+pub returns-in-Ok-clause-message : goal.returns-in-Ok-clause-message
+returns-in-Ok-clause-message c =
+    wants_resolved (interface_of c.args.interface.now) c.args.bytes.now c.in-Ok.name.now (map datum_of c.in-Ok.args.items) c.resolve_named.result c.in-Ok.ensures.found
+    c.resolve_named.ensures.exact
 
-pub returns-in_err-text-clause-begun : goal.returns-in_err-text-clause-begun
-returns-in_err-text-clause-begun c =
-    let p = err_from_is_err_and c.from_residual.result c.from_residual.ensures.1 in
-    rw (p.1, p.2) c.in_err-text.ensures.begun
+pub returns-in-Err-NotACall-clause-only : goal.returns-in-Err-NotACall-clause-only
+returns-in-Err-NotACall-clause-only c =
+    let none = rw c.in-Err-NotACall.field-0-is at c.in-Err-NotACall.ensures.fault in
+    only_read (interface_of c.args.interface.now) c.args.bytes.now NotACall none
 
-pub returns-clause-begun : goal.returns-clause-begun
-returns-clause-begun c =
-    wants_if c.resolve.result (BeginsCall c.args.bytes.now) (begins_spelled c.args.bytes.now c.in_ok-text.text.name.bytes.items (map datum_of c.in_ok-text.text.args.items) c.in_ok-text.ensures.found)
+pub returns-in-Err-clause-only : goal.returns-in-Err-clause-only
+returns-in-Err-clause-only c = only_read (interface_of c.args.interface.now) c.args.bytes.now c.without_call.result c.without_call.ensures.exact

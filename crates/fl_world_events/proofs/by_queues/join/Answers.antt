@@ -12,8 +12,8 @@ add_both-requires c = record {
 
 pub register_both-requires : goal.register_both-requires
 register_both-requires c = record {
-  client = client_on_queue c.args.both c.in-Ok.ends c.args.core.now c.add_both.new.self c.whole.ensures.whole c.in-Ok.ensures.joins;
-  server = server_on_queue c.args.both c.in-Ok.ends c.args.core.now c.add_both.new.self c.whole.ensures.whole c.in-Ok.ensures.joins;
+  client = client_on_queue c.args.both c.in-Ok.ends c.args.core.now c.add_both.new.self c.law_whole.ensures.whole c.in-Ok.ensures.joins;
+  server = server_on_queue c.args.both c.in-Ok.ends c.args.core.now c.add_both.new.self c.law_whole.ensures.whole c.in-Ok.ensures.joins;
 }
 
 pub returns-in_default-clause-kept : goal.returns-in_default-clause-kept
@@ -21,7 +21,7 @@ returns-in_default-clause-kept c = not_added c.args.both c.args.core.now c.add_b
 
 pub returns-clause-joins : goal.returns-clause-joins
 returns-clause-joins c = record {
-  whole = c.whole.ensures.whole;
-  still = c.whole-2.ensures.whole;
+  whole = c.law_whole.ensures.whole;
+  still = c.law_whole-2.ensures.whole;
   event = record { ends = c.in-Ok.ends; with_both = c.add_both.new.self; added = c.in-Ok.ensures.joins; listed = c.register_both.ensures.lists };
 }

@@ -4,8 +4,8 @@ use Rattle.fl_world_events.proofs.moving.hear_by_ring.Goals as goal
 pub returns : goal.returns
 returns c = record {
   hears = record {
-    whole = c.whole.ensures.whole;
-    still = c.whole-2.ensures.whole;
+    whole = c.law_whole.ensures.whole;
+    still = c.law_whole-2.ensures.whole;
     over = record {
       side = c.side-side.result;
       lent = record { ring = c.side-side.ensures.ring; which = c.side-side.ensures.side ∙ c.which_at.ensures.which };

@@ -1,4 +1,4 @@
 use Rattle.fl_world_events.proofs.taking.register_by_queue.Goals as goal
 
 pub returns : goal.returns
-returns c = record { registers = record { whole = c.whole.ensures.whole; still = c.whole-2.ensures.whole; event = (c.register-outcome.result, c.register-outcome.ensures.registers, c.answer_register.ensures.registered) } }
+returns c = record { registers = record { whole = c.law_whole.ensures.whole; still = c.law_whole-2.ensures.whole; event = (c.register-outcome.result, c.register-outcome.ensures.registers, c.answer_register.ensures.registered) } }

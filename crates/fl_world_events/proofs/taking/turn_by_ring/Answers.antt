@@ -12,7 +12,7 @@ returns-in-Ok-clause-turns c =
         side = h.over.side;
         lent = h.over.lent;
         left = h.over.left;
-        event = (c.in-Ok.answer, c.sound.ensures.sound, h.over.event, c.answer_turn.ensures.turned);
+        event = (c.in-Ok.answer, c.law_sound.ensures.sound, h.over.event, c.answer_turn.ensures.turned);
         rest = h.over.rest;
       };
     }

@@ -14,7 +14,7 @@ returns-in_err-add_argument-clause-fault c =
     let n = c.loop-argument.invariant.same in
     let s : Stood = (list_of c.loop-argument.names, i) in
     err_of c.from_residual.result c.in_err-add_argument.field-0.0 _ c.from_residual.ensures.1
-    (walk_fault (arguments_left b) (argument_here b) after_argument (arguments_walk b) _ c.in_err-add_argument.field-0.0 s c.args.args.now i _ _ (omega arith) refl c.loop-argument.invariant.places (rw n at c.in_err-add_argument.ensures.fault))
+    (walk_fault (arguments_left b) (argument_here b) after_argument (arguments_walk b) _ c.in_err-add_argument.field-0.0 s c.args.args.now i c.argument-item.result _ (omega arith) c.argument-item.is c.loop-argument.invariant.places (rw n at c.in_err-add_argument.ensures.fault))
 
 pub loop-argument-preserved : goal.loop-argument-preserved
 loop-argument-preserved c =
@@ -23,8 +23,8 @@ loop-argument-preserved c =
     let n = c.loop-argument.invariant.same in
     let s : Stood = (list_of c.loop-argument.names, i) in
     record {
-      places = walk_on (arguments_left b) (argument_here b) after_argument (arguments_walk b) _ s _ c.args.args.now i _ _ (omega arith) refl c.loop-argument.invariant.places (rw n at c.in_ok-add_argument.ensures.sound) (stood (list_of c.loop-argument.names) _ _ i c.in_ok-add_argument.ensures.names);
-      types = made_push argument_of (argument_type b) c.args.args.now i _ _ _ _ _ (omega arith) refl c.loop-argument.invariant.types c.in_ok-add_argument.ensures.more refl;
+      places = walk_on (arguments_left b) (argument_here b) after_argument (arguments_walk b) _ s _ c.args.args.now i c.argument-item.result _ (omega arith) c.argument-item.is c.loop-argument.invariant.places (rw n at c.in_ok-add_argument.ensures.sound) (stood (list_of c.loop-argument.names) _ _ i c.in_ok-add_argument.ensures.names);
+      types = made_push argument_of (argument_type b) c.args.args.now i c.argument-item.result _ _ _ _ (omega arith) c.argument-item.is c.loop-argument.invariant.types c.in_ok-add_argument.ensures.more refl;
       same = omega (arith, c.in_ok-add_argument.ensures.len);
       few = omega (arith, c.in_ok-add_argument.ensures.few, c.loop-argument.invariant.same);
     }

@@ -16,7 +16,7 @@ returns-in_err-add_directed-clause-fault c =
     let n = c.loop-directed.invariant.same in
     let s : Stood = (list_of c.loop-directed.names, i) in
     err_of c.from_residual.result c.in_err-add_directed.field-0.0 _ c.from_residual.ensures.1
-    (walk_fault (directed_left b) (directed_here b) after_directed (directed_walk b) _ c.in_err-add_directed.field-0.0 s c.args.args.now i _ _ (omega arith) refl c.loop-directed.invariant.places (rw n at c.in_err-add_directed.ensures.fault))
+    (walk_fault (directed_left b) (directed_here b) after_directed (directed_walk b) _ c.in_err-add_directed.field-0.0 s c.args.args.now i c.directed-item.result _ (omega arith) c.directed-item.is c.loop-directed.invariant.places (rw n at c.in_err-add_directed.ensures.fault))
 
 pub loop-directed-preserved : goal.loop-directed-preserved
 loop-directed-preserved c =
@@ -25,9 +25,9 @@ loop-directed-preserved c =
     let n = c.loop-directed.invariant.same in
     let s : Stood = (list_of c.loop-directed.names, i) in
     record {
-      places = walk_on (directed_left b) (directed_here b) after_directed (directed_walk b) _ s _ c.args.args.now i _ _ (omega arith) refl c.loop-directed.invariant.places (rw n at c.in_ok-add_directed.ensures.sound) (stood (list_of c.loop-directed.names) _ _ i c.in_ok-add_directed.ensures.names);
-      ins = ins_push (argument_type b) c.args.args.now i _ _ _ _ _ _ (omega arith) refl c.loop-directed.invariant.ins c.in_ok-add_directed.ensures.ins refl;
-      outs = outs_push (argument_type b) c.args.args.now i _ _ _ _ _ _ (omega arith) refl c.loop-directed.invariant.outs c.in_ok-add_directed.ensures.outs refl;
+      places = walk_on (directed_left b) (directed_here b) after_directed (directed_walk b) _ s _ c.args.args.now i c.directed-item.result _ (omega arith) c.directed-item.is c.loop-directed.invariant.places (rw n at c.in_ok-add_directed.ensures.sound) (stood (list_of c.loop-directed.names) _ _ i c.in_ok-add_directed.ensures.names);
+      ins = ins_push (argument_type b) c.args.args.now i c.directed-item.result _ _ _ _ _ (omega arith) c.directed-item.is c.loop-directed.invariant.ins c.in_ok-add_directed.ensures.ins refl;
+      outs = outs_push (argument_type b) c.args.args.now i c.directed-item.result _ _ _ _ _ (omega arith) c.directed-item.is c.loop-directed.invariant.outs c.in_ok-add_directed.ensures.outs refl;
       same = omega (arith, c.in_ok-add_directed.ensures.len);
       few = omega (arith, c.in_ok-add_directed.ensures.few, c.loop-directed.invariant.same);
     }

@@ -13,17 +13,17 @@ pub returns-in_err-add_field-clause-fault : goal.returns-in_err-add_field-clause
 returns-in_err-add_field-clause-fault c =
     let b = before_of c.args.self.now in
     err_of c.from_residual.result c.in_err-add_field.field-0.0 _ c.from_residual.ensures.1
-    (walk_fault (fields_left b) (field_here b) after_field (fields_walk b) _ c.in_err-add_field.field-0.0 (list_of c.loop-field.names) c.args.fields.now c.loop-field.field-index _ _ (omega arith) refl c.loop-field.invariant.places c.in_err-add_field.ensures.fault)
+    (walk_fault (fields_left b) (field_here b) after_field (fields_walk b) _ c.in_err-add_field.field-0.0 (list_of c.loop-field.names) c.args.fields.now c.loop-field.field-index c.field-item.result _ (omega arith) c.field-item.is c.loop-field.invariant.places c.in_err-add_field.ensures.fault)
 
 pub loop-field-preserved : goal.loop-field-preserved
 loop-field-preserved c =
     let b = before_of c.args.self.now in
     record {
-      places = walk_on (fields_left b) (field_here b) after_field (fields_walk b) _ (list_of c.loop-field.names) _ c.args.fields.now c.loop-field.field-index _ _ (omega arith) refl c.loop-field.invariant.places c.in_ok-add_field.ensures.sound c.in_ok-add_field.ensures.names;
-      types = made_push field_of (field_type b) c.args.fields.now c.loop-field.field-index _ _ _ _ _ (omega arith) refl c.loop-field.invariant.types c.in_ok-add_field.ensures.more refl;
+      places = walk_on (fields_left b) (field_here b) after_field (fields_walk b) _ (list_of c.loop-field.names) _ c.args.fields.now c.loop-field.field-index c.field-item.result _ (omega arith) c.field-item.is c.loop-field.invariant.places c.in_ok-add_field.ensures.sound c.in_ok-add_field.ensures.names;
+      types = made_push field_of (field_type b) c.args.fields.now c.loop-field.field-index c.field-item.result _ _ _ _ (omega arith) c.field-item.is c.loop-field.invariant.types c.in_ok-add_field.ensures.more refl;
       same = c.in_ok-add_field.ensures.same;
       few = c.in_ok-add_field.ensures.few;
-      looked = field_looked_on b (list_of c.loop-field.names) _ c.args.fields.now c.loop-field.field-index _ _ (omega arith) refl c.loop-field.invariant.looked c.in_ok-add_field.ensures.sound;
+      looked = field_looked_on b (list_of c.loop-field.names) _ c.args.fields.now c.loop-field.field-index c.field-item.result _ (omega arith) c.field-item.is c.loop-field.invariant.looked c.in_ok-add_field.ensures.sound;
     }
 
 pub returns-clause-sound : goal.returns-clause-sound
@@ -49,4 +49,4 @@ pub returns-in_err-add_field-clause-memory : goal.returns-in_err-add_field-claus
 returns-in_err-add_field-clause-memory c =
     let b = before_of c.args.self.now in
     err_after c.from_residual.result c.in_err-add_field.field-0.0 _ c.from_residual.ensures.1
-    (field_looked b (list_of c.loop-field.names) c.in_err-add_field.field-0.0 c.args.fields.now c.loop-field.field-index _ _ (omega arith) refl c.loop-field.invariant.looked c.in_err-add_field.ensures.memory)
+    (field_looked b (list_of c.loop-field.names) c.in_err-add_field.field-0.0 c.args.fields.now c.loop-field.field-index c.field-item.result _ (omega arith) c.field-item.is c.loop-field.invariant.looked c.in_err-add_field.ensures.memory)

@@ -1,4 +1,5 @@
 use Rattle.std.proofs.Common.{◌≡◌, ◌∙◌, ◌∷◌, [], ap, rules}
+use Rattle.fl_lex.specs.Words.{is_name}
 use Rattle.fl_check.specs.Views.{before_of}
 use Rattle.fl_check.specs.declared.fault.CheckFault.TheVariants.{Memory}
 use Rattle.fl_check.proofs.FirstFaults.{tells_here, tells_past, none_past, err_of, memory_tells, ok_by}
@@ -43,3 +44,8 @@ returns-in_err-to_vec-clause-memory c = call_after c.from_residual-in_err-to_vec
 
 pub returns-clause-memory : goal.returns-clause-memory
 returns-clause-memory c = call_after c.push_message.result _ c.in_ok-check_message_name.ensures.sound
+
+pub push_message-requires-clause-word : goal.push_message-requires-clause-word
+push_message-requires-clause-word c =
+    let t : c.in_ok-to_vec.field-0.items ≡ c.args.name.now.text.now = search rules in
+    ap is_name t ∙ c.args.name.now.named

@@ -12,6 +12,8 @@ push_rpc-requires c = record {
   no_call = c.in_ok-call.ensures.no_call;
   no_response = c.in_ok-call.ensures.no_response;
   two = two_names (name_of c.args.name.now) _ _ c.in_ok-call.ensures.call c.in_ok-call.ensures.response;
+  call = c.in_ok-call.ensures.words.0;
+  response = c.in_ok-call.ensures.words.1;
 }
 
 pub returns-in_err-call-clause-fault : goal.returns-in_err-call-clause-fault

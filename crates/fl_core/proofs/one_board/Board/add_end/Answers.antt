@@ -43,14 +43,14 @@ invariant_of-self-in-Ok c =
     let seat : TheEndAtChannel = record { end = c.args.end; dispatcher = c.args.dispatcher; channel = c.len.result; kind = c.args.kind } in
     let pushed : c.push_reserved-in-Ok.new.self.items ≡ c.self.inside.seats.items ++ seat ∷ [] = c.push_reserved-in-Ok.ensures.items ∙ ap (λ (x : List TheEndAtChannel). x ++ seat ∷ []) c.make_room.ensures.seats in
     let seats = ap (λ (x : List TheEndAtChannel). seats_of x c.add_place.new.calls) pushed ∙ ap (λ (x : List TheReassembly). seats_of (c.self.inside.seats.items ++ seat ∷ []) x) calls
-    ∙ new_seat c.self.inside.seats.items c.self.inside.calls c.self.invariant.together c.args.end r c.args.dispatcher c.len.result c.args.kind c.sound.ensures.alone none in
+    ∙ new_seat c.self.inside.seats.items c.self.inside.calls c.self.invariant.together c.args.end r c.args.dispatcher c.len.result c.args.kind c.law_sound.ensures.alone none in
     let place = c.len-place.ensures ∙ c.self.inside.seats.ok.0 ∙ sym (as_many c.self.inside.seats.items c.self.inside.calls c.self.invariant.together) in
     record {
       board = added_kept c.args.self.now _ c.self.view_is c.args.dispatcher c.requires _ _ c.index_mut-at.ensures.value c.at.view_is c.self.invariant.board c.push_reserved.new.self.items (seats_of c.push_reserved-in-Ok.new.self.items c.add_place.new.calls) c.args.end c.args.kind c.len-place.result c.len.result place (c.len.ensures ∙ c.make_room.new.ends.ok.0 ∙ ap length c.make_room.ensures.ends) room
           (c.push_reserved.ensures.items ∙ ap (λ (x : List ℕ). x ++ c.len-place.result ∷ []) c.make_room.ensures.ends) seats;
       together = subst (λ (x : List TheEndAtChannel). GoTogether x c.add_place.new.calls) (sym pushed)
           (subst (λ (x : List TheReassembly). GoTogether (c.self.inside.seats.items ++ seat ∷ []) x) (sym calls)
-          (one_more_together c.self.inside.seats.items c.self.inside.calls c.self.invariant.together seat r (new_belongs c.args.end r of.program none c.sound.ensures.alone c.sound.ensures.sound)));
+          (one_more_together c.self.inside.seats.items c.self.inside.calls c.self.invariant.together seat r (new_belongs c.args.end r of.program none c.law_sound.ensures.alone c.law_sound.ensures.sound)));
     }
 
 pub returns-in-Ok-add_place : goal.returns-in-Ok-add_place
@@ -60,7 +60,7 @@ returns-in-Ok-add_place c =
     let seat : TheEndAtChannel = record { end = c.args.end; dispatcher = c.args.dispatcher; channel = c.len.result; kind = c.args.kind } in
     let pushed : c.push_reserved-in-Ok.new.self.items ≡ c.self.inside.seats.items ++ seat ∷ [] = c.push_reserved-in-Ok.ensures.items ∙ ap (λ (x : List TheEndAtChannel). x ++ seat ∷ []) c.make_room.ensures.seats in
     let seats = ap (λ (x : List TheEndAtChannel). seats_of x c.add_place.new.calls) pushed ∙ ap (λ (x : List TheReassembly). seats_of (c.self.inside.seats.items ++ seat ∷ []) x) calls
-    ∙ new_seat c.self.inside.seats.items c.self.inside.calls c.self.invariant.together c.args.end r c.args.dispatcher c.len.result c.args.kind c.sound.ensures.alone none in
+    ∙ new_seat c.self.inside.seats.items c.self.inside.calls c.self.invariant.together c.args.end r c.args.dispatcher c.len.result c.args.kind c.law_sound.ensures.alone none in
     let place = c.len-place.ensures ∙ c.self.inside.seats.ok.0 ∙ sym (as_many c.self.inside.seats.items c.self.inside.calls c.self.invariant.together) in
     record {
       adds = added_adds c.args.self.now _ c.self.view_is c.args.dispatcher c.requires _ _ c.index_mut-at.ensures.value c.at.view_is c.self.invariant.board c.push_reserved.new.self.items (seats_of c.push_reserved-in-Ok.new.self.items c.add_place.new.calls) c.args.end c.args.kind c.len-place.result c.len.result place (c.len.ensures ∙ c.make_room.new.ends.ok.0 ∙ ap length c.make_room.ensures.ends) room

@@ -15,7 +15,8 @@ invariant_of-self c =
     let at = here c.args.self.now c.self.inside.dispatchers.items c.self.inside.seats.items c.self.inside.calls c.self.view_is c.self.invariant c.args.e c.requires.there _ _ c.index_mut-seat.ensures.value c.seat.view_is in
     let like = holds_here c.args.self.now c.self.inside.dispatchers.items c.self.inside.seats.items c.self.inside.calls c.self.view_is c.self.invariant c.args.e c.requires.there _ _ c.index_mut-seat.ensures.value c.seat.view_is (λ s. interface_in s.end ≡ interface_in c.args.other.now) c.requires.interface in
     let event = exchanges_with at.call.parts c.seat.inside.end c.args.other.now c.exchange_rules.new.self c.exchange_rules.new.other c.exchange_rules.ensures.exchanges in
-    let adds = c.law_exchange_accounts.ensures.account (with_parts c.seat.inside.end at.call.parts) c.args.other.now like at.of.sound c.sound.ensures.sound in
+    let adds = c.law_exchange_accounts.ensures.account (with_parts c.seat.inside.end at.call.parts) c.args.other.now like at.of.sound
+    c.law_sound.ensures.sound in
     end_event_kept c.args.self.now c.self.inside.dispatchers.items c.self.inside.seats.items c.self.inside.calls c.self.view_is c.self.invariant c.args.e c.requires.there _ _ c.index_mut-seat.ensures.value c.seat.view_is c.exchange_rules.new.self (ap (λ (x : TheEnd). x.program) c.exchange_rules.ensures.exchanges.0) (subst Sound (sym event.0) adds.sound)
     (λ ready. subst IsReady (sym c.exchange_rules.ensures.exchanges.0) ready)
 

@@ -15,7 +15,7 @@ take_back_end-requires c =
     has_new c.args.self.now c.add_end.new.self c.args.both.client.dispatcher c.args.both.client.end c.client_wired_end-client_wired_end.result c.in-Ok.client c.in-Ok.ensures.adds
     c.add_end-2.new.self c.args.both.server.dispatcher c.args.both.server.end c.server_wired_end-server_wired_end.result c.in_default-add_end.field-0 c.in_default-add_end.ensures.adds
     (few _ _ c.client_wired_end-client_wired_end.ensures.wired_end c.requires.few) (new c.args.self.now _ _ c.client_wired_end-client_wired_end.ensures.wired_end c.requires.new_client)
-    c.sound.ensures.sound c.sound.ensures.board
+    c.law_sound.ensures.sound c.law_sound.ensures.board
 
 pub returns-in_default-add_end : goal.returns-in_default-add_end
 returns-in_default-add_end c = record {

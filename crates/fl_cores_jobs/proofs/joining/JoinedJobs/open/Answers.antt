@@ -6,7 +6,7 @@ use Rattle.fl_cores_file.specs.Views.{request_of}
 use Rattle.fl_cores_jobs.specs.Faults.{request_fault, StopsFor}
 use Rattle.fl_cores_jobs.specs.State.{TheJoinedJobs, joined_of}
 use Rattle.fl_cores_jobs.proofs.Fitting.{opening_fits}
-use Rattle.fl_cores_jobs.proofs.Wishing.{refused_stops}
+use Rattle.fl_cores_jobs.proofs.AskedFor.{refused_stops}
 use Rattle.fl_cores_jobs.proofs.joining.JoinedJobs.open.Goals as goal
 
 pub returns-clause-opened : goal.returns-clause-opened

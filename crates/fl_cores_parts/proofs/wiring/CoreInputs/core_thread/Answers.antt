@@ -16,7 +16,7 @@ returns c =
     let run = c.in_ok-running.ensures in
     record {
       ready = record {
-        core = rw c.deref-2.ensures at c.sound.ensures.sound;
+        core = rw c.deref-2.ensures at c.law_sound.ensures.sound;
         as_many = c.in_ok-plan.ensures.as_many;
         may = subst (λ (words : List OpeningStatus). AreWords words knows) (sym c.in_ok-plan.ensures.words)
             (words_are c.args.self.now.cores joined.bindings.items joined.owners.items c.args.k knows c.requires.bindings alone);

@@ -5,8 +5,8 @@ use Rattle.test_core.proofs.node.ends.pass_through.Goals as goal
 pub take_back_end-requires : goal.take_back_end-requires
 take_back_end-requires c = record {
   before = c.args.core.now;
-  sound = c.sound.ensures.sound;
-  board = c.sound.ensures.board;
+  sound = c.law_sound.ensures.sound;
+  board = c.law_sound.ensures.board;
   dispatcher = 0;
   end = c.args.end;
   wired_end = record { name = c.args.name; wiring = Ring 0 };

@@ -1,0 +1,2 @@
+pub mod TapesTaken
+pub mod FragBytes

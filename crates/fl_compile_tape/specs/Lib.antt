@@ -1,0 +1,3 @@
+-- What the public promises rest on: packed tapes of payloads (TapeLaws), and the bytes of fragments (Frags).
+pub mod TapeLaws
+pub mod Frags

@@ -1,0 +1,6 @@
+pub mod Numbers
+pub mod Onlys
+pub mod Stands
+pub mod Seen
+pub mod Placed
+pub mod Kept

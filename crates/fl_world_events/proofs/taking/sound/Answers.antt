@@ -1,5 +1,0 @@
-use Rattle.fl_world_events.proofs.Ends.{sound_holds}
-use Rattle.fl_world_events.proofs.taking.sound.Goals as goal
-
-pub returns : goal.returns
-returns c = record { sound = sound_holds c.args.core.now _ c.board.ensures.board c.args.e c.end_sound.ensures.sound }
