@@ -12,10 +12,12 @@ pub fn boxed(alloc: Global, handle: Handle) -> Option<Box<Handle>>
     Box::new(alloc, handle).ok()
 }
 
-/// Hands out a handle; where there was no memory for it (99) the pointer is as it was.
+/// Hands out a handle; where there was no memory for it (99) the pointer is as it was. That the pointer leads to the handle no clause
+/// says.
 pub fn hand_one(handle: Option<Box<Handle>>, at: &mut *mut u8) -> u32
     ensures faults { (result ≡ 0) ⊎ (result ≡ 99) }
     ensures given { IsSome handle → result ≡ 0 }
+    ensures some { result ≡ 0 → IsSome handle }
     ensures kept { result ≢ 0 → at.new ≡ at.old }
 {
     let Some(handle) = handle else {
@@ -25,7 +27,8 @@ pub fn hand_one(handle: Option<Box<Handle>>, at: &mut *mut u8) -> u32
     0
 }
 
-/// Hands out two handles; where there was no memory for either (99) both pointers are as they were.
+/// Hands out two handles; where there was no memory for one of them (99) both pointers are as they were. That each pointer leads to
+/// its handle no clause says.
 pub fn hand_out(
     first: Option<Box<Handle>>,
     second: Option<Box<Handle>>,
@@ -34,6 +37,7 @@ pub fn hand_out(
 ) -> u32
     ensures faults { (result ≡ 0) ⊎ (result ≡ 99) }
     ensures given { IsSome first → IsSome second → result ≡ 0 }
+    ensures some { result ≡ 0 → IsSome first × IsSome second }
     ensures kept { result ≢ 0 → (one.new ≡ one.old) × (two.new ≡ two.old) }
 {
     let Some(first) = first else {
