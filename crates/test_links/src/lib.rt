@@ -1,8 +1,6 @@
 //! Tests of lists, waitsets, links, rings, streams and circuits, over their public calls alone: one crate, since each crate of tests
 //! begins with reading all that it stands on.
 //!
-//! - `rows.rt`: tables, of which a test tells the first row that isn't so
-//! - `examples.rt`: the examples that stand in no table of their own kind
 //! - `ring.rt`: lists, waitsets, links and rings
 //! - `streams.rt`: streams, in one thread and in two
 //! - `hop.rt`: circuits at cores
@@ -12,12 +10,8 @@
 #![tactic(auto)]
 
 #[cfg(test)]
-mod examples;
-#[cfg(test)]
 mod hop;
 #[cfg(test)]
 mod ring;
-#[cfg(test)]
-mod rows;
 #[cfg(test)]
 mod streams;

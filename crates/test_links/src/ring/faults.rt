@@ -1,17 +1,15 @@
 //! The numbers and the words of the faults.
 
-use crate::rows::{LinkCase, all_hold};
 use fl_hop::HopFault;
 use fl_link::{LinkFault, PutFault};
 use fl_ring::RingFault;
 use fl_waitset::WaitFault;
 use std::alloc::{AllocError, Global};
-use std::fmt::Display;
 use std::test::Fail;
 
-/// A fault of any of the crates.
+// A fault of any of the crates.
 #[derive(Clone, Copy)]
-pub enum FaultOfLinks {
+enum FaultOfLinks {
     Wait(WaitFault),
     Put(PutFault),
     Link(LinkFault),
@@ -19,101 +17,108 @@ pub enum FaultOfLinks {
     Hop(HopFault),
 }
 
-/// A fault, its number and its words.
-pub struct ToldFault(pub FaultOfLinks, pub u8, pub &'static str);
-
-const FAULTS: &[ToldFault] = &[
-    ToldFault(
+// A fault, its number and its words.
+const FAULTS: &[(FaultOfLinks, u8, &str)] = &[
+    (
         FaultOfLinks::Wait(WaitFault::Registered),
         50,
         "the channel is registered already",
     ),
-    ToldFault(
+    (
         FaultOfLinks::Wait(WaitFault::NotRegistered),
         51,
         "the channel is not registered",
     ),
-    ToldFault(
+    (
         FaultOfLinks::Wait(WaitFault::NoEvent),
         52,
         "no channel waits to be looked at",
     ),
-    ToldFault(
+    (
         FaultOfLinks::Wait(WaitFault::NoChannel),
         53,
         "no such channel",
     ),
-    ToldFault(
+    (
         FaultOfLinks::Wait(WaitFault::TooMany),
         54,
         "over 1,024 channels",
     ),
-    ToldFault(
+    (
         FaultOfLinks::Wait(WaitFault::Memory),
         99,
         "no memory for the channels of a waitset",
     ),
-    ToldFault(FaultOfLinks::Put(PutFault::Full), 30, "the link is full"),
-    ToldFault(
+    (FaultOfLinks::Put(PutFault::Full), 30, "the link is full"),
+    (
         FaultOfLinks::Put(PutFault::Spent),
         33,
         "the link has carried as many fragments as it can count",
     ),
-    ToldFault(
+    (
         FaultOfLinks::Link(LinkFault::BadSize),
         32,
         "a link can't have this number of slots",
     ),
-    ToldFault(
+    (
         FaultOfLinks::Link(LinkFault::Memory),
         99,
         "no memory for the slots of a link",
     ),
-    ToldFault(
+    (
         FaultOfLinks::Ring(RingFault::BadSize),
         32,
         "a ring can't have this number of slots",
     ),
-    ToldFault(
+    (
         FaultOfLinks::Ring(RingFault::Memory),
         99,
         "no memory for the slots of a ring",
     ),
+    (
+        FaultOfLinks::Hop(HopFault::Marked),
+        63,
+        "a fragment of a circuit has the form of one that only acknowledges",
+    ),
+    (
+        FaultOfLinks::Hop(HopFault::Misrouted),
+        67,
+        "a circuit without an entry, or out of turn",
+    ),
+    (FaultOfLinks::Hop(HopFault::NoLink), 73, "no such link"),
+    (
+        FaultOfLinks::Hop(HopFault::UsedUp),
+        74,
+        "all circuits of the link are used up",
+    ),
+    (
+        FaultOfLinks::Hop(HopFault::Limit),
+        94,
+        "too many links of one core",
+    ),
+    (
+        FaultOfLinks::Hop(HopFault::Memory),
+        99,
+        "no memory for one more link or circuit",
+    ),
 ];
 
-fn number_of(fault: FaultOfLinks) -> u8 {
-    match fault {
-        FaultOfLinks::Wait(fault) => fault.number(),
-        FaultOfLinks::Put(fault) => fault.number(),
-        FaultOfLinks::Link(fault) => fault.number(),
-        FaultOfLinks::Ring(fault) => fault.number(),
-        FaultOfLinks::Hop(fault) => fault.number(),
-    }
-}
-
-// Whether these are the words of the fault.
-fn says<F: Display>(alloc: Global, fault: &F, text: &str) -> Result<bool, AllocError> {
-    let shown = fault.to_string(alloc)?;
-    Ok(shown.as_str() == text)
-}
-
-fn has_words(alloc: Global, fault: &FaultOfLinks, text: &str) -> Result<bool, AllocError> {
-    match fault {
-        FaultOfLinks::Wait(fault) => says(alloc, fault, text),
-        FaultOfLinks::Put(fault) => says(alloc, fault, text),
-        FaultOfLinks::Link(fault) => says(alloc, fault, text),
-        FaultOfLinks::Ring(fault) => says(alloc, fault, text),
-        FaultOfLinks::Hop(fault) => says(alloc, fault, text),
-    }
-}
-
-impl LinkCase for ToldFault {
-    fn holds(&self, alloc: Global) -> Result<bool, Fail> {
-        Ok(number_of(self.0) == self.1 && has_words(alloc, &self.0, self.2)?)
-    }
+// The number and the words of a fault.
+fn told(alloc: Global, fault: FaultOfLinks) -> Result<(u8, String), AllocError> {
+    Ok(match fault {
+        FaultOfLinks::Wait(fault) => (fault.number(), fault.to_string(alloc)?),
+        FaultOfLinks::Put(fault) => (fault.number(), fault.to_string(alloc)?),
+        FaultOfLinks::Link(fault) => (fault.number(), fault.to_string(alloc)?),
+        FaultOfLinks::Ring(fault) => (fault.number(), fault.to_string(alloc)?),
+        FaultOfLinks::Hop(fault) => (fault.number(), fault.to_string(alloc)?),
+    })
 }
 
 #[test]
 fn faults(rt: HostRuntime) -> Result<(), Fail> {
-    all_hold(rt.alloc(), "faults", FAULTS)
+    for (fault, number, words) in FAULTS {
+        let (got, text) = told(rt.alloc(), *fault)?;
+        assert!(rt; got == *number && text.as_str() == *words);
+    }
+    Ok(())
 }

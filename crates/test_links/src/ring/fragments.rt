@@ -4,7 +4,7 @@ ghost use Rattle.std.specs.Prelude.{◌≡◌, false};
 ghost use Rattle.fl_base.specs.Control.{is_ack_only};
 
 use fl_base::Frag;
-use fl_link::{Link, PutFault, PutSide, Sight, TakeSide, Told};
+use fl_link::{Link, PutFault, Sight, Told};
 
 /// The only fragment of `ping(v)`, message 0 of its interface.
 pub fn ping(v: u64) -> Frag
@@ -22,16 +22,6 @@ pub fn sight_of(v: u64, control: u64) -> Sight {
         words: [v, 0, 0, 0, 0, 0, 0],
         control,
     })
-}
-
-/// A caller that knows only the traits: it puts until there is no room, and says how often it could.
-pub fn fill<L: Link>(link: &mut L, from: u64) -> u64 {
-    for v in 0..8 {
-        if link.put(&ping(from.wrapping_add(v))).is_err() {
-            return v;
-        }
-    }
-    8
 }
 
 /// A call of a link or of one of its sides, and what it has to answer. A fragment is told by its first word
@@ -66,28 +56,12 @@ pub fn answers<L: Link>(link: &mut L, step: LinkCall) -> bool {
     }
 }
 
-/// What became of a fragment that was to go from one side to another.
-#[derive(Clone, Copy, PartialEq, Eq)]
-pub enum Passed {
-    Moved,
-    Acknowledged,
-    Nothing,
-    NotPut,
-}
-
-/// Passes the first fragment on between any two sides: one that isn't put stays.
-pub fn pass_on<T: TakeSide, P: PutSide>(from: &mut T, to: &mut P) -> Passed {
-    let frag = match from.peek() {
-        Sight::Empty => return Passed::Nothing,
-        Sight::Acknowledgement => {
-            let _ = from.take();
-            return Passed::Acknowledged;
+/// Whether the link answers so to the steps in turn.
+pub fn follows<L: Link>(link: &mut L, steps: &[LinkCall]) -> bool {
+    for step in steps {
+        if !answers(link, *step) {
+            return false;
         }
-        Sight::Data(frag) => frag,
-    };
-    if to.put(&frag).is_err() {
-        return Passed::NotPut;
     }
-    let _ = from.take();
-    Passed::Moved
+    true
 }

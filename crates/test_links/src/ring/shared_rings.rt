@@ -2,9 +2,7 @@
 
 ghost use Rattle.std.specs.Prelude.{◌≡◌, ◌≤◌, ◌^◌};
 
-use crate::examples::LinksExample;
-use crate::ring::fragments::{LinkCall, Passed, answers, pass_on, ping, sight_of};
-use crate::rows::all_hold;
+use crate::ring::fragments::{LinkCall, answers, ping, sight_of};
 use fl_link::{PutFault, Sight, Told};
 use fl_ring::{
     RingFault, RingRx, RingTx, SharedSide, WhichSide, duo, duo_from, law_receiver_conserves,
@@ -49,18 +47,13 @@ const RING_OF_TWO: &[LinkCall] = &[
     LinkCall::TakeNothing,
 ];
 
-fn ring_follows(tx: &mut RingTx, rx: &mut RingRx, steps: &[LinkCall]) -> bool {
-    for step in steps {
+fn ring_follows(tx: &mut RingTx, rx: &mut RingRx) -> bool {
+    for step in RING_OF_TWO {
         if !ring_answers(tx, rx, *step) {
             return false;
         }
     }
     true
-}
-
-pub fn a_ring_of_two(alloc: Global) -> Result<bool, Fail> {
-    let (mut tx, mut rx) = ring(alloc, 2)?;
-    Ok(ring_follows(&mut tx, &mut rx, RING_OF_TWO))
 }
 
 fn sides_follow(
@@ -100,16 +93,6 @@ const DUO_OF_FOUR: &[(WhichSide, LinkCall)] = &[
     (WhichSide::One, LinkCall::NextTold(1)),
 ];
 
-pub fn a_duo_of_four(alloc: Global) -> Result<bool, Fail> {
-    let (mut one, mut two) = duo(alloc, 4)?;
-    Ok(sides_follow(&mut one, &mut two, DUO_OF_FOUR))
-}
-
-// Whether a fragment that is put at one side is taken with this control word at the other.
-fn crosses(from: &mut SharedSide, to: &mut SharedSide, word: u64, control: u64) -> bool {
-    from.try_put(&ping(word)) == Ok(()) && to.try_take() == sight_of(word, control)
-}
-
 // Through this ring so many fragments have passed each way. Its sides are told nothing of them, so
 // that no proof writes so long a list out.
 fn began_long_ago(alloc: Global, start: u64) -> Result<(SharedSide, SharedSide), RingFault>
@@ -132,19 +115,18 @@ const CROSSED: &[(u64, u64, u64)] = &[
     (9, 0x0003_0000_0000_0003, 0x0004_0000_0000_0003),
 ];
 
+// The numbers told turn over at 65,536, and the epochs every four fragments.
 fn each_crosses(one: &mut SharedSide, two: &mut SharedSide) -> bool {
     for (word, there, back) in CROSSED {
-        if !crosses(one, two, *word, *there) || !crosses(two, one, *word, *back) {
+        if one.try_put(&ping(*word)).is_err()
+            || two.try_take() != sight_of(*word, *there)
+            || two.try_put(&ping(*word)).is_err()
+            || one.try_take() != sight_of(*word, *back)
+        {
             return false;
         }
     }
     true
-}
-
-// The numbers told turn over at 65,536, and the epochs every four fragments.
-pub fn a_duo_that_began_long_ago(alloc: Global) -> Result<bool, Fail> {
-    let (mut one, mut two) = began_long_ago(alloc, 65_530)?;
-    Ok(each_crosses(&mut one, &mut two))
 }
 
 // Whose step it is, and the step: through this ring 2^62 fragments less two have passed each way. A side puts two more, and
@@ -167,45 +149,20 @@ const DUO_AT_ITS_END: &[(WhichSide, LinkCall)] = &[
     (WhichSide::Two, LinkCall::Take(5, 0xfffe_0000_0000_0002)),
 ];
 
-pub fn a_duo_at_its_end(alloc: Global) -> Result<bool, Fail> {
-    let (mut one, mut two) = began_long_ago(alloc, (1 << 62) - 2)?;
-    Ok(sides_follow(&mut one, &mut two, DUO_AT_ITS_END))
-}
-
-// A fragment goes from a ring through a duo into the ring.
-fn goes_round(
-    tx: &mut RingTx,
-    rx: &mut RingRx,
-    one: &mut SharedSide,
-    two: &mut SharedSide,
-) -> bool {
-    ring_answers(tx, rx, LinkCall::Put(5, Ok(())))
-        && pass_on(rx, one) == Passed::Moved
-        && pass_on(two, tx) == Passed::Moved
-        && ring_answers(tx, rx, LinkCall::Take(5, 3))
-        && pass_on(rx, one) == Passed::Nothing
-}
-
-pub fn passes_between(alloc: Global) -> Result<bool, Fail> {
-    let (mut tx, mut rx) = ring(alloc, 2)?;
-    let (mut one, mut two) = duo(alloc, 4)?;
-    Ok(goes_round(&mut tx, &mut rx, &mut one, &mut two))
-}
-
-const EXAMPLES: &[LinksExample] = &[
-    LinksExample::SharedRing,
-    LinksExample::SharedDuo,
-    LinksExample::LongAgo,
-    LinksExample::AtItsEnd,
-    LinksExample::PassesBetween,
-];
-
 #[test]
 fn shared_rings(rt: HostRuntime) -> Result<(), Fail> {
     law_sender_conserves();
     law_receiver_conserves();
     law_side_conserves();
-    all_hold(rt.alloc(), "examples", EXAMPLES)
+    let (mut tx, mut rx) = ring(rt.alloc(), 2)?;
+    assert!(rt; ring_follows(&mut tx, &mut rx));
+    let (mut one, mut two) = duo(rt.alloc(), 4)?;
+    assert!(rt; sides_follow(&mut one, &mut two, DUO_OF_FOUR));
+    let (mut one, mut two) = began_long_ago(rt.alloc(), 65_530)?;
+    assert!(rt; each_crosses(&mut one, &mut two));
+    let (mut one, mut two) = began_long_ago(rt.alloc(), (1 << 62) - 2)?;
+    assert!(rt; sides_follow(&mut one, &mut two, DUO_AT_ITS_END));
+    Ok(())
 }
 
 const COUNT: u64 = 10_000;
