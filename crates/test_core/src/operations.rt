@@ -1,6 +1,5 @@
 //! What C asks of handles, by its number: each operation once, and on handles of a wrong kind and with too little room.
 
-use crate::tables::tell;
 use fl_c_operations::{
     Handle, HeldEnd, HeldProgram, MakeFault, UseFault, image_ends, new_run, ring_handles,
     text_ends, text_program, use_handle,
@@ -51,6 +50,7 @@ const FRAGMENTS: &[Row] = &[
     (1, 2, &[9; 8], (0, 2, 0), &[9; 8]),
 ];
 
+// At the same sides afterwards.
 const MISTAKES_AT_SIDES: &[Row] = &[
     (1, 1, &[0; 7], (103, 0, 0), &[0; 7]),
     (1, 2, &[0; 9], (103, 0, 0), &[0; 9]),
@@ -64,10 +64,6 @@ const MISTAKES_AT_SIDES: &[Row] = &[
         (63, 0, 0),
         &[0, 0, 0, 0, 0, 0, 0, 4],
     ),
-    (1, 1, &[2; 8], (0, 0, 0), &[2; 8]),
-    (1, 1, &[2; 8], (0, 0, 0), &[2; 8]),
-    (1, 1, &[2; 8], (0, 0, 0), &[2; 8]),
-    (1, 1, &[2; 8], (30, 0, 0), &[2; 8]),
 ];
 
 const CALLS: &[Row] = &[
@@ -159,15 +155,15 @@ fn holds(handle: &mut Handle, row: &Row) -> Result<bool, AllocError> {
     Ok(as_wanted && *numbers == *after)
 }
 
-// All rows come to what they say at two handles, one after another.
-fn all_come(one: &mut Handle, two: &mut Handle, table: &str, rows: &[Row]) -> Result<(), Fail> {
-    for (number, row) in rows.iter().enumerate() {
+// Whether all rows come to what they say at two handles, one after another.
+fn all_come(one: &mut Handle, two: &mut Handle, rows: &[Row]) -> Result<bool, AllocError> {
+    for row in rows {
         let handle = if row.0 == 1 { &mut *one } else { &mut *two };
         if !holds(handle, row)? {
-            return tell(table, number);
+            return Ok(false);
         }
     }
-    Ok(())
+    Ok(true)
 }
 
 // The two sides of a ring; none only where memory runs out.
@@ -202,18 +198,6 @@ fn run_of(program: &HeldProgram, kind: u32) -> Result<Handle, AllocError> {
     }
 }
 
-#[test]
-fn fragments_go_over(rt: HostRuntime) -> Result<(), Fail> {
-    let (mut one, mut two) = sides(rt.alloc())?;
-    all_come(&mut one, &mut two, "fragments", FRAGMENTS)
-}
-
-#[test]
-fn mistakes_at_sides_are_told(rt: HostRuntime) -> Result<(), Fail> {
-    let (mut one, mut two) = sides(rt.alloc())?;
-    all_come(&mut one, &mut two, "mistakes at sides", MISTAKES_AT_SIDES)
-}
-
 // A side is freed, which tells the size of the handle's block, and answers nothing then.
 fn is_freed(side: &mut Handle) -> bool {
     let freed = use_handle(side, 5, &mut []);
@@ -222,43 +206,32 @@ fn is_freed(side: &mut Handle) -> bool {
 }
 
 #[test]
-fn a_freed_handle_answers_nothing(rt: HostRuntime) -> Result<(), Fail> {
-    let (mut one, _two) = sides(rt.alloc())?;
-    if is_freed(&mut one) {
-        Ok(())
-    } else {
-        tell("freed handles", 0)
-    }
+fn fragments_go_over(rt: HostRuntime) -> Result<(), Fail> {
+    let (mut one, mut two) = sides(rt.alloc())?;
+    assert!(rt; all_come(&mut one, &mut two, FRAGMENTS)?);
+    assert!(rt; all_come(&mut one, &mut two, MISTAKES_AT_SIDES)?);
+    assert!(rt; is_freed(&mut one));
+    Ok(())
 }
 
 #[test]
 fn calls_go_over(rt: HostRuntime) -> Result<(), Fail> {
     let (mut one, mut two) = ends(rt.alloc())?;
-    all_come(&mut one, &mut two, "calls", CALLS)
+    assert!(rt; all_come(&mut one, &mut two, CALLS)?);
+    Ok(())
 }
 
+// There is no third kind of run. A program that is a handle tells sizes.
 #[test]
 fn runs_give_and_take_fragments(rt: HostRuntime) -> Result<(), Fail> {
     let program = held_program(rt.alloc())?;
     let mut sender = run_of(&program, 1)?;
     let mut receiver = run_of(&program, 2)?;
-    all_come(&mut sender, &mut receiver, "runs", RUNS)
-}
-
-// There is no third kind of run.
-fn has_no_third(program: &HeldProgram) -> bool {
-    matches!(new_run(program, 3), Err(UseFault::NoSuchOperation))
-}
-
-#[test]
-fn programs_tell_sizes(rt: HostRuntime) -> Result<(), Fail> {
-    let program = held_program(rt.alloc())?;
-    if !has_no_third(&program) {
-        return tell("runs of no kind", 0);
-    }
-    let mut other = run_of(&program, 1)?;
+    assert!(rt; all_come(&mut sender, &mut receiver, RUNS)?);
+    assert!(rt; matches!(new_run(&program, 3), Err(UseFault::NoSuchOperation)));
     let mut one = Handle::Program(program);
-    all_come(&mut one, &mut other, "sizes", SIZES)
+    assert!(rt; all_come(&mut one, &mut sender, SIZES)?);
+    Ok(())
 }
 
 // Whether nothing is made, for the fault of this number at this place.
@@ -274,21 +247,13 @@ fn is_refused(
     }
 }
 
-// Whether a text with a fault, a wrong number of slots and bytes that are no image are refused.
-fn are_refused(alloc: Global) -> Result<bool, AllocError> {
-    let wrong = b"interface i { message m(uint7 x); };";
-    let text = is_refused(text_ends(alloc, wrong, PlanNo::One, 8), 11, 24)?;
-    let size = is_refused(text_ends(alloc, TEXT, PlanNo::One, 7), 32, 0)?;
-    let image = is_refused(image_ends(alloc, b"FLAN", 8), 80, 0)?;
-    let ring = matches!(ring_handles(alloc, 5), Err(RingFault::BadSize));
-    Ok(text && size && image && ring)
-}
-
+// A text with a fault, a wrong number of slots and bytes that are no image are refused.
 #[test]
 fn texts_and_images_may_be_refused(rt: HostRuntime) -> Result<(), Fail> {
-    if are_refused(rt.alloc())? {
-        Ok(())
-    } else {
-        tell("what is refused", 0)
-    }
+    let wrong = b"interface i { message m(uint7 x); };";
+    assert!(rt; is_refused(text_ends(rt.alloc(), wrong, PlanNo::One, 8), 11, 24)?);
+    assert!(rt; is_refused(text_ends(rt.alloc(), TEXT, PlanNo::One, 7), 32, 0)?);
+    assert!(rt; is_refused(image_ends(rt.alloc(), b"FLAN", 8), 80, 0)?);
+    assert!(rt; matches!(ring_handles(rt.alloc(), 5), Err(RingFault::BadSize)));
+    Ok(())
 }

@@ -1,6 +1,6 @@
-//! The counter and the words of jobs of a run of two cores, in one thread: what one tells the others find.
+//! The counter and the words of jobs of a run of two cores, in one thread: what one tells the others find. Whole runs of a core
+//! are those of `test_cores`, by `run_cores`.
 
-use crate::tables::tell;
 use fl_cores_table::{EndSeat, SeatPlan};
 use std::alloc::{AllocError, Global};
 use std::test::Fail;
@@ -34,9 +34,7 @@ const FOUND: [u64; 11] = [0, 1, 1, 0, 0, 74, 0, 18, 35, 74, 0];
 fn two_cores(rt: HostRuntime) -> Result<(), Fail> {
     let found = find(rt.alloc())?;
     for (place, wanted) in FOUND.iter().enumerate() {
-        if found.get(place) != Some(wanted) {
-            return tell("what is found", place);
-        }
+        assert!(rt; found.get(place) == Some(wanted));
     }
     Ok(())
 }
