@@ -51,6 +51,10 @@ fn main() {
     if plain_c.exists() {
         compile_c(&plain_c);
     }
+    let lines = PathBuf::from("src/lines.c");
+    if lines.exists() {
+        compile_lines(&lines);
+    }
 }
 
 /// Compiles a benchmark's plain C, and links it.
@@ -62,6 +66,15 @@ fn compile_c(source: &Path) {
     run(Command::new("ar").arg("crs").arg(&archive).arg(&object));
     println!("cargo:rustc-link-search=native={}", out.display());
     println!("cargo:rustc-link-lib=static=plain_c");
+}
+
+/// Compiles a benchmark's own `malloc`, which a proved program is started with.
+fn compile_lines(source: &Path) {
+    println!("cargo:rerun-if-changed={}", source.display());
+    let library = PathBuf::from(env::var("OUT_DIR").unwrap()).join("lines.so");
+    // No built-in: a `malloc` and a `memset` would be made one `calloc`.
+    run(Command::new("cc").args(["-O2", "-fno-builtin", "-shared", "-fPIC"]).arg(source).arg("-o").arg(&library));
+    println!("cargo:rustc-env=LINES={}", library.display());
 }
 
 fn run(command: &mut Command) {

@@ -1,6 +1,6 @@
-/* A ring of two directions in one thread: puts and takes from C, and the same loop within the archive, in
- * turn. Prints the medians of a put with its take, in ns, and their ratio. `duo ours` does ten runs from C alone, whose
- * instructions can be counted. */
+/* A ring of two directions in one thread: puts and takes from C, the same loop within the archive, and puts and takes of
+ * plain C (`plain.c`), in turn. Prints the medians of a put with its take, in ns, and their ratios. `duo ours` and `duo plain`
+ * do ten runs of one side alone, whose instructions can be counted. */
 #include <flounder.h>
 #include <stdio.h>
 #include <stdlib.h>
@@ -10,6 +10,12 @@
 /* bench/ffi/flounder_bench.rattle */
 uint64_t flounder_shared_duo(size_t slots, uint64_t rounds, uint64_t batch);
 
+/* plain.c */
+struct plain_side;
+int plain_duo(uint64_t slots, struct plain_side **one, struct plain_side **two);
+unsigned plain_put(struct plain_side *side, const uint64_t fragment[8]);
+unsigned plain_take(struct plain_side *side, uint64_t fragment[8]);
+
 /* Short runs, so that most end before other work takes the processor. */
 enum { SLOTS = 64, ROUNDS = 500, BATCH = 16, RUNS = 901 };
 
@@ -18,21 +24,30 @@ static uint64_t sum_of(const uint64_t fragment[8])
     return fragment[0] + fragment[1] + fragment[2] + fragment[3] + fragment[4] + fragment[5] + fragment[6];
 }
 
-static uint64_t over(fl_side *from, fl_side *to, uint64_t round)
+static unsigned our_take(fl_side *side, uint64_t fragment[8])
 {
-    uint64_t sum = 0, fragment[8];
     unsigned sight;
-    for (uint64_t k = 0; k < BATCH; k++) {
-        uint64_t v = round + k;
-        uint64_t next[8] = { v, v, v, v, v, v, v, 2 };
-        fl_put(from, next);
-    }
-    for (uint64_t k = 0; k < BATCH; k++) {
-        fl_take(to, fragment, &sight);
-        if (sight == FL_FRAGMENT) sum += sum_of(fragment);
-    }
-    return sum;
+    fl_take(side, fragment, &sight);
+    return sight;
 }
+
+/* A batch from one side to the other, of which each fragment is made, put, taken and read. */
+#define OVER(NAME, SIDE, PUT, TAKE) \
+    static uint64_t NAME(SIDE *from, SIDE *to, uint64_t round) \
+    { \
+        uint64_t sum = 0, fragment[8]; \
+        for (uint64_t k = 0; k < BATCH; k++) { \
+            uint64_t v = round + k; \
+            uint64_t next[8] = { v, v, v, v, v, v, v, 2 }; \
+            PUT(from, next); \
+        } \
+        for (uint64_t k = 0; k < BATCH; k++) \
+            if (TAKE(to, fragment) == FL_FRAGMENT) sum += sum_of(fragment); \
+        return sum; \
+    }
+
+OVER(over, fl_side, fl_put, our_take)
+OVER(over_plain, struct plain_side, plain_put, plain_take)
 
 static uint64_t from_c(void)
 {
@@ -46,6 +61,23 @@ static uint64_t from_c(void)
     fl_free_side(&one);
     fl_free_side(&two);
     return sum;
+}
+
+static uint64_t plain_c(void)
+{
+    static struct plain_side *one, *two;
+    uint64_t sum = 0;
+    if (!one && !plain_duo(SLOTS, &one, &two)) return 0;
+    for (uint64_t round = 0; round < ROUNDS; round++) {
+        sum += over_plain(one, two, round);
+        sum += over_plain(two, one, round);
+    }
+    return sum;
+}
+
+static uint64_t in_rattle(void)
+{
+    return flounder_shared_duo(SLOTS, ROUNDS, BATCH);
 }
 
 static double now(void)
@@ -63,25 +95,27 @@ static int by_size(const void *a, const void *b)
 
 int main(int argc, char **argv)
 {
-    if (argc > 1 && !strcmp(argv[1], "ours")) {
+    static uint64_t (*const runs[])(void) = { from_c, in_rattle, plain_c };
+    static double times[3][RUNS];
+    double middle[3];
+    if (argc > 1) {
+        int plain = !strcmp(argv[1], "plain");
         for (int run = 0; run < 10; run++)
-            if (!from_c()) return 1;
+            if (!runs[plain ? 2 : 0]()) return 1;
         return 0;
     }
-    double c[RUNS], rattle[RUNS], each = 2.0 * ROUNDS * BATCH;
-    for (int run = 0; run < RUNS; run++) {
+    uint64_t wanted = from_c();
+    for (int run = 0; run < 3 * RUNS; run++) {
         double start = now();
-        uint64_t here = from_c();
-        double middle = now();
-        uint64_t there = flounder_shared_duo(SLOTS, ROUNDS, BATCH);
-        double end = now();
-        if (here != there || !here) return 1;
-        c[run] = (middle - start) / each;
-        rattle[run] = (end - middle) / each;
+        uint64_t sum = runs[run % 3]();
+        times[run % 3][run / 3] = (now() - start) / (2.0 * ROUNDS * BATCH);
+        if (sum != wanted || !sum) return 1;
     }
-    qsort(c, RUNS, sizeof *c, by_size);
-    qsort(rattle, RUNS, sizeof *rattle, by_size);
-    printf("put and take of a duo: from C %.1f ns, within the archive %.1f ns, ratio %.2f\n", c[RUNS / 2],
-        rattle[RUNS / 2], c[RUNS / 2] / rattle[RUNS / 2]);
+    for (int k = 0; k < 3; k++) {
+        qsort(times[k], RUNS, sizeof *times[k], by_size);
+        middle[k] = times[k][RUNS / 2];
+    }
+    printf("put and take of a duo: from C %.1f ns, within the archive %.1f ns: %.2f; plain C by calls %.1f ns: %.2f\n",
+        middle[0], middle[1], middle[1] / middle[0], middle[2], middle[2] / middle[0]);
     return 0;
 }

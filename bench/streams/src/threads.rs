@@ -163,12 +163,14 @@ pub fn run_plain(mut words: impl Iterator<Item = String>) {
     }
 }
 
-/// What is measured: its name, its program (none: this one), its word there, and how many ways fragments go.
+/// What is measured: its name, its program (none: this one), its word there, how many ways fragments go, and whether its
+/// blocks lie on cache lines of their own.
 struct Row {
     name: &'static str,
     program: Option<&'static str>,
     word: &'static str,
     ways: u64,
+    on_lines: bool,
 }
 
 const STREAMS: Option<&str> = Some(env!("FLOUNDER_STREAMS"));
@@ -181,16 +183,26 @@ const fn row(name: &'static str, program: Option<&'static str>, word: &'static s
         program,
         word,
         ways,
+        on_lines: false,
     }
 }
 
-const ROWS: [Row; 9] = [
+const fn on_lines(name: &'static str, word: &'static str) -> Row {
+    Row {
+        on_lines: true,
+        ..row(name, STREAMS, word)
+    }
+}
+
+const ROWS: [Row; 11] = [
     row("stream", STREAMS, "stream"),
+    on_lines("stream, on lines", "stream"),
     row("kit's rtrb", STREAMS, "rtrb"),
     row("plain Rust", None, "rust"),
     row("plain C", None, "c"),
     row("duo", THREADS, "duo"),
     row("stream, slices", STREAMS, "stream-slices"),
+    on_lines("stream, slices, on lines", "stream-slices"),
     row("kit's rtrb, slices", STREAMS, "rtrb-slices"),
     row("plain Rust, slices", None, "rust-slices"),
     row("plain C, slices", None, "c-slices"),
@@ -206,6 +218,9 @@ fn middle(row: &Row, pauses: u64) -> f64 {
     let mut command = Command::new(Path::new(&program));
     if row.program.is_none() {
         command.arg("plain");
+    }
+    if row.on_lines {
+        command.env("LD_PRELOAD", env!("LINES"));
     }
     command.arg(row.word).args(numbers.map(|n| n.to_string()));
     let output = command.output().expect("the program runs");

@@ -1,9 +1,15 @@
 //! Operations at a side of a ring of two directions. A fragment is eight numbers: its words, and its
 //! control word.
 
-ghost use Rattle.std.specs.Prelude.{◌≡◌, ◌≢◌, ◌∷◌, [], ◌++◌, length, Some, None};
+ghost use Rattle.std.specs.Prelude.{◌≡◌, ◌≢◌, ◌==◌, ◌/◌, ◌%◌, ◌^◌, ◌∷◌, [], ◌++◌, length, Some, None};
+ghost use Rattle.std.specs.List.{list_all};
 ghost use Rattle.fl_base.specs.declared.fragment.Frag.{Frag};
+<<<<<<< HEAD:crates/fl_c_operations/src/side.rt
 ghost use Rattle.fl_c_operations.specs.Sides.{numbers_of, Puts, Takes, Peeks, Tells, UsesSide};
+=======
+ghost use Rattle.fl_base.specs.Control.{is_ack_only};
+ghost use Rattle.fl_c.specs.Sides.{numbers_of, Puts, Takes, Peeks, Tells, UsesSide};
+>>>>>>> bbdef1fa725d116f8818ec499b3e8e97217650be:crates/fl_c/src/side.rt
 
 use crate::answer::{Outcome, UseFault};
 use crate::operation::Operation;
@@ -27,15 +33,43 @@ pub(crate) fn fragment_of(numbers: &[u64]) -> Option<Frag>
     })
 }
 
-/// Writes a fragment's numbers.
+/// Writes a fragment's numbers, each by itself: a copy of all words would go through memory of its own.
 #[inline(always)]
 pub(crate) fn write(numbers: &mut [u64], frag: &Frag)
     requires { length numbers.old ≡ 8 }
     ensures numbers { numbers.new ≡ numbers_of frag.now }
 {
-    let (words, control) = numbers.split_at_mut(7);
-    words.copy_from_slice(&frag.words);
-    control[0] = frag.control;
+    numbers[0] = frag.words[0];
+    numbers[1] = frag.words[1];
+    numbers[2] = frag.words[2];
+    numbers[3] = frag.words[3];
+    numbers[4] = frag.words[4];
+    numbers[5] = frag.words[5];
+    numbers[6] = frag.words[6];
+    numbers[7] = frag.control;
+}
+
+// Bit 2 is set, and bits 1 and 3 to 47 are 0.
+#[inline(always)]
+fn has_ack_bits(control: u64) -> bool
+    ensures { result ≡ (control / 2 % 2 ^ 47 == 2) }
+{
+    control / 2 % 140_737_488_355_328 == 2
+}
+
+#[inline(always)]
+fn is_blank(words: [u64; 7]) -> bool
+    ensures { result ≡ list_all (λ word. word == 0) words }
+{
+    words.iter().all(|word| *word == 0)
+}
+
+// What [`Frag::is_ack_only`] tells, in line: a call on a way that is seldom gone takes registers from all others.
+#[inline(always)]
+fn only_acknowledges(frag: &Frag) -> bool
+    ensures { result ≡ is_ack_only frag.now }
+{
+    has_ack_bits(frag.control) && is_blank(frag.words)
 }
 
 /// Puts the fragment of these numbers.
@@ -50,7 +84,7 @@ pub fn put(side: &mut SharedSide, numbers: &[u64]) -> Result<Outcome, UseFault>
     let Some(frag) = fragment_of(numbers) else {
         return Err(UseFault::WrongRoom);
     };
-    if frag.is_ack_only() {
+    if only_acknowledges(&frag) {
         return Err(UseFault::OnlyAcknowledges);
     }
     match side.try_put(&frag) {
