@@ -30,12 +30,12 @@ may_want_memory (monitor_write core neighbour) = false
 may_want_memory (monitor_ack core neighbour) = false
 may_want_memory event = true
 
--- memory is wanting last: no refusal is what the event comes to. A turn wants memory only where its dispatcher is there and it handles a call, and a
+-- memory may be wanting for the event, and is told last: no refusal is what it comes to. A turn wants memory only where its dispatcher is there and it handles a call, and a
 -- forward only for a message that is heard, and that makes a monitor say something.
-abbrev pub IsAccepted : Event → TheWorld → Type 0
-IsAccepted (turn d) w = WantsToHandle d w
-IsAccepted (forward core neighbour) w = WantsToSay core neighbour w
-IsAccepted event w = NotRefused (Does event w)
+abbrev pub WantsMemory : Event → TheWorld → Type 0
+WantsMemory (turn d) w = WantsToHandle d w
+WantsMemory (forward core neighbour) w = WantsToSay core neighbour w
+WantsMemory event w = NotRefused (Does event w)
 
 -- the fault for which an event was refused
 abbrev pub fault_in : Answer → Option ℕ

@@ -6,7 +6,7 @@ ghost use Rattle.fl_model.specs.State.{State};
 ghost use Rattle.fl_world_refines.specs.ShowsState.{Shows};
 ghost use Rattle.fl_world_refines.specs.Step.{Does, settled, settled_by, Steps};
 ghost use Rattle.fl_world.specs.Stepping.{StepsAlike, may_want_memory, fault_in, is_interface};
-ghost use Rattle.fl_world.specs.Stepping.{IsAccepted, RunsAlike, ShowsAfterSome};
+ghost use Rattle.fl_world.specs.Stepping.{WantsMemory, RunsAlike, ShowsAfterSome};
 
 use crate::world::World;
 use fl_model::{Answer, Event};
@@ -35,7 +35,7 @@ impl World {
         ensures does { IfOk result (λ a. Does (event_of event.now) self.old (answer_of a) self.new) }
         ensures kept { OnErr result (self.new ≡ self.old) }
         ensures memory { OnErr result (may_want_memory (event_of event.now) ≡ true) }
-        ensures last { OnErr result (IsAccepted (event_of event.now) self.old) }
+        ensures last { OnErr result (WantsMemory (event_of event.now) self.old) }
     {
         match event {
             Event::AddInterface { interface, plan } => self.add_interface(interface, *plan),
@@ -114,7 +114,7 @@ impl World {
         ensures agrees { IfOk result (λ a. StepsAlike (event_of event.now) self.old (answer_of a) self.new) }
         ensures kept { OnErr result (self.new ≡ self.old) }
         ensures memory { OnErr result (may_want_memory (event_of event.now) ≡ true) }
-        ensures last { OnErr result (IsAccepted (event_of event.now) self.old) }
+        ensures last { OnErr result (WantsMemory (event_of event.now) self.old) }
     {
         law_steps_agree();
         let outcome = self.does(event);
@@ -132,7 +132,7 @@ impl World {
         ensures agrees { IfOk result (λ a. StepsAlike (event_of event.entry) self.old (answer_of a) self.new) }
         ensures kept { OnErr result (self.new ≡ self.old) }
         ensures memory { OnErr result (may_want_memory (event_of event.entry) ≡ true) }
-        ensures last { OnErr result (IsAccepted (event_of event.entry) self.old) }
+        ensures last { OnErr result (WantsMemory (event_of event.entry) self.old) }
     {
         self.replay(&event)
     }

@@ -30,7 +30,7 @@ pub record LooksAtPending (b : TheBoard) (d : ℕ) : Type 0 where
   pub channel : ChanId
   pub picks : next_pick dispatcher.lists ≡ Ok (Pending channel)
 
--- the turn of dispatcher d handles a call at the end at place e, which is due, over what that takes from
+-- dispatcher d looks at a pending channel, and what stands first makes a call whole at the end at place e, which callers know to be due
 pub record HandlesCall {T : Type 0} (takes : T → Look → T → Type 0) (d e : ℕ) (b : TheBoard) (p : T) : Type 0 where
   pub pending : LooksAtPending b d
   pub whole : Holds b e (λ seat. MakesWhole takes p seat.end)
