@@ -5,4 +5,3 @@ mod memory_tests;
 mod row_tests;
 mod stub_tests;
 mod text_tests;
-mod writable_tests;

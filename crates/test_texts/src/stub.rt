@@ -3,7 +3,6 @@
 
 mod compile_tests;
 mod recv_tests;
-mod rows;
 mod send_tests;
 mod steps_tests;
 mod verify_tests;

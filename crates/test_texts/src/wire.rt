@@ -1,8 +1,7 @@
 //! Tests of values, layouts, payloads and fragments, by the public calls of their crates: worked rows and forged
 //! fragments. The rows of a kind stand in a table; each file has those of one crate or one call.
 //!
-//! - `strings.rt`: an interface of a string, and its calls
-//! - `value_tests.rt`, `tape_tests.rt`: calls as text, which calls fit, and calls as tapes
+//! - `value_tests.rt`, `tape_tests.rt`: calls as text, and calls as tapes
 //! - `layout_tests.rt`: lengths, places and sizes
 //! - `payload_tests.rt`: payloads, fragments, and calls read back from them
 //! - `forged_tests.rt`: what lists of fragments read as, forged ones too
@@ -10,6 +9,5 @@
 mod forged_tests;
 mod layout_tests;
 mod payload_tests;
-mod strings;
 mod tape_tests;
 mod value_tests;

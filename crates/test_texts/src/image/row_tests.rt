@@ -17,8 +17,6 @@ enum Spoiled {
     Changed(usize, u8),
     /// The image of `ping` with any byte at any place.
     ChangedAnyhow,
-    /// The image's first 16 bytes, and behind them so many arrays of one element each in one another, and this.
-    Nested(usize, &'static [u8]),
 }
 
 // Such bytes, and their fault: 0 where they are an image.
@@ -49,17 +47,6 @@ const CHANGES: &[ImageRow] = &[
     ImageRow(Spoiled::Changed(22, 8), 84),
     // no other fault is told than those of images
     ImageRow(Spoiled::ChangedAnyhow, 0),
-];
-
-// The eighth array is found at the message's end, the nineteenth type at its first byte.
-const NESTED: &[ImageRow] = &[
-    ImageRow(Spoiled::Nested(0, &[7]), 82),
-    ImageRow(Spoiled::Nested(7, &[7]), 82),
-    ImageRow(Spoiled::Nested(8, &[7]), 83),
-    ImageRow(Spoiled::Nested(17, &[7]), 83),
-    ImageRow(Spoiled::Nested(18, &[7]), 83),
-    ImageRow(Spoiled::Nested(0, &[0x12, 0, 0]), 82),
-    ImageRow(Spoiled::Nested(0, &[0x12, 0, 0, 0x20]), 83),
 ];
 
 // The answer to each beginning of the image, where all have the same; else 0.
@@ -95,23 +82,12 @@ fn unknown(alloc: Global) -> Result<u8, AllocError> {
     Ok(0)
 }
 
-// The answer to the image's first 16 bytes with types in one another behind them.
-fn answer_to_types(alloc: Global, count: usize, last: &[u8]) -> Result<u8, AllocError> {
-    let mut bytes = Vec::from_slice(alloc, &PING[..16])?;
-    for _ in 0..count {
-        bytes.extend_from_slice(&[0x12, 1, 0])?;
-    }
-    bytes.extend_from_slice(last)?;
-    answer(alloc, &bytes)
-}
-
 fn answer_to(alloc: Global, spoiled: &Spoiled) -> Result<u8, AllocError> {
     match spoiled {
         Spoiled::Bytes(bytes) => answer(alloc, bytes),
         Spoiled::Cut => answer_to_cuts(alloc),
         Spoiled::Changed(at, to) => answer_to_change(alloc, &PING, *at, *to),
         Spoiled::ChangedAnyhow => unknown(alloc),
-        Spoiled::Nested(count, last) => answer_to_types(alloc, *count, last),
     }
 }
 
@@ -121,26 +97,12 @@ impl TextCase for ImageRow {
     }
 }
 
-// The laws on images and on their faults: they may be called where images are read.
-fn know_images() {
+#[test]
+fn spoiled_images(rt: HostRuntime) -> Result<(), Fail> {
     law_one_image();
     law_cut_images_end_early();
     law_longer_images_have_more();
     law_field_faults_stay();
-}
-
-#[test]
-fn images_that_end_early(rt: HostRuntime) -> Result<(), Fail> {
-    know_images();
-    all_hold(rt.alloc(), "images that end early", ENDED)
-}
-
-#[test]
-fn one_byte_changed(rt: HostRuntime) -> Result<(), Fail> {
+    all_hold(rt.alloc(), "images that end early", ENDED)?;
     all_hold(rt.alloc(), "changed bytes", CHANGES)
-}
-
-#[test]
-fn types_in_one_another(rt: HostRuntime) -> Result<(), Fail> {
-    all_hold(rt.alloc(), "types in one another", NESTED)
 }

@@ -17,12 +17,10 @@ enum ImageExample {
     Plan(PlanNo, u8, u8),
 }
 
-const PINGS: &[ImageExample] = &[
+const IMAGES: &[ImageExample] = &[
     ImageExample::Ping(PlanNo::One, 1),
     ImageExample::Ping(PlanNo::Two, 2),
-];
-
-const PLANS: &[ImageExample] = &[
+    ImageExample::Padded,
     ImageExample::Plan(PlanNo::One, 2, 84),
     ImageExample::Plan(PlanNo::Two, 2, 0),
 ];
@@ -103,16 +101,6 @@ impl TextCase for ImageExample {
 }
 
 #[test]
-fn the_image_of_ping(rt: HostRuntime) -> Result<(), Fail> {
-    all_hold(rt.alloc(), "plans", PINGS)
-}
-
-#[test]
-fn padding_of_a_struct(rt: HostRuntime) -> Result<(), Fail> {
-    all_hold(rt.alloc(), "padding", &[ImageExample::Padded])
-}
-
-#[test]
-fn plans(rt: HostRuntime) -> Result<(), Fail> {
-    all_hold(rt.alloc(), "plans", PLANS)
+fn images_of_texts(rt: HostRuntime) -> Result<(), Fail> {
+    all_hold(rt.alloc(), "images", IMAGES)
 }

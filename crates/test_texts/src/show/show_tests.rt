@@ -1,5 +1,6 @@
 //! Tables of texts and of their images, and a header that was written by hand.
 
+use crate::image::images::MIXED;
 use crate::rows::all_hold;
 use crate::show::shown::ShownCase;
 use fl_value_data::PlanNo;
@@ -21,28 +22,36 @@ arg 1 at 8 string max 2047
 arg 2 at 0 fixed 2
 ";
 
-// Names as long as they may be, types of all kinds, two messages of an rpc.
-const ALL_KINDS: &[u8] = b"\
-interface a_name_of_64_bytes_which_is_as_long_as_a_name_in_a_text_may_be__ \"described\" {
-    typedef enum { red, green, blue, } colour;
-    typedef struct { uint8 a; uint64 b[3]; colour c; } t;
-    alias u t;
-    message put(u x, t y[n, 7], string s[4096]);
-    rpc an_rpc_of_55_bytes_which_is_as_long_as_its_name_may_be_(in iref where, out bool ok, out char c);
-};";
-
-// A text is shown under plan 2, an image under its own plan; the image of a text shows what the text shows.
+// A text is shown under plan 2, an image under its own plan.
 const SHOWN: &[ShownCase] = &[
-    ShownCase::Text(PLAN_TWO),
+    ShownCase::Text(MIXED, PLAN_TWO),
+    // a struct of 16 bytes, an array of 2 times 2, and an rpc's two messages, of which one is empty
+    ShownCase::Text(
+        b"\
+interface store {
+    typedef struct { uint8 a; uint64 b; } t;
+    typedef uint16 pair[2];
+    message put(pair p, t x[n, 7], string s[4]);
+    rpc get(in iref where, out bool ok);
+    message nop();
+};",
+        b"\
+interface store plan 2
+message 0 put least 24 greatest 140 fragments 3
+arg 0 at 0 fixed 4
+arg 1 at 8 array max 7 stride 16
+arg 2 at - string max 4
+message 1 get_call least 4 greatest 4 fragments 1
+arg 0 at 0 fixed 4
+message 2 get_response least 1 greatest 1 fragments 1
+arg 0 at 0 fixed 1
+message 3 nop least 0 greatest 0 fragments 1
+",
+    ),
     ShownCase::Image(PlanNo::One, PLAN_ONE),
     ShownCase::Image(PlanNo::Two, PLAN_TWO),
-    ShownCase::Alike(ALL_KINDS),
+    ShownCase::Header(HEADED, HEADER),
 ];
-
-#[test]
-fn a_text_and_its_images(rt: HostRuntime) -> Result<(), Fail> {
-    all_hold(rt.alloc(), "tables", SHOWN)
-}
 
 const HEADED: &[u8] = b"interface i {
     typedef struct { int8 x[2]; } pair;
@@ -101,6 +110,6 @@ static inline int i_m_get(struct i_m *m, const uint64_t *call, size_t count)
 ";
 
 #[test]
-fn a_header_is_as_written_by_hand(rt: HostRuntime) -> Result<(), Fail> {
-    all_hold(rt.alloc(), "headers", &[ShownCase::Header(HEADED, HEADER)])
+fn tables_and_headers(rt: HostRuntime) -> Result<(), Fail> {
+    all_hold(rt.alloc(), "what is shown", SHOWN)
 }

@@ -3,7 +3,7 @@
 use crate::image::images::{MIXED, image_of};
 use crate::rows::TextCase;
 use fl_value_data::PlanNo;
-use flounder_show::{compile_text, header_of_content, show_content, show_text};
+use flounder_show::{header_of_content, show_content};
 use std::alloc::Global;
 use std::test::Fail;
 
@@ -21,12 +21,10 @@ fn has_header(alloc: Global, content: &[u8], header: &[u8]) -> Result<bool, Fail
 
 /// What is made of texts and images, and what has to come of it.
 pub enum ShownCase {
-    /// The table of the text between numbers and a string.
-    Text(&'static [u8]),
-    /// The table of its image under a plan.
+    /// The table of a text.
+    Text(&'static [u8], &'static [u8]),
+    /// The table of the image of the text between numbers and a string, under a plan.
     Image(PlanNo, &'static [u8]),
-    /// A text and its image are shown alike.
-    Alike(&'static [u8]),
     /// The header of a text.
     Header(&'static [u8], &'static [u8]),
 }
@@ -36,22 +34,11 @@ fn is_image(alloc: Global, plan: PlanNo, table: &[u8]) -> Result<bool, Fail> {
     has_table(alloc, &image, table)
 }
 
-fn shows_as(alloc: Global, image: &[u8], text: &[u8]) -> Result<bool, Fail> {
-    let wanted = show_text(alloc, text)?;
-    has_table(alloc, image, &wanted)
-}
-
-fn are_alike(alloc: Global, text: &[u8]) -> Result<bool, Fail> {
-    let image = compile_text(alloc, text)?;
-    shows_as(alloc, &image, text)
-}
-
 impl TextCase for ShownCase {
     fn holds(&self, alloc: Global) -> Result<bool, Fail> {
         match self {
-            ShownCase::Text(table) => has_table(alloc, MIXED, table),
+            ShownCase::Text(text, table) => has_table(alloc, text, table),
             ShownCase::Image(plan, table) => is_image(alloc, *plan, table),
-            ShownCase::Alike(text) => are_alike(alloc, text),
             ShownCase::Header(text, header) => has_header(alloc, text, header),
         }
     }

@@ -6,7 +6,7 @@ use fl_base::MsgNo;
 use fl_compile::{Program, compile};
 use fl_stub::{Column, Op, VerifiedCode};
 use fl_value_data::PlanNo;
-use std::alloc::{AllocError, Global};
+use std::alloc::Global;
 use std::test::Fail;
 
 // An interface's text and how many messages it has, a plan, a message's number, and the message's two codes.
@@ -376,11 +376,6 @@ const CODES: &[Codes] = &[
     },
 ];
 
-fn compile_text(alloc: Global, text: &[u8], plan: PlanNo) -> Result<Program, Fail> {
-    let interface = interface(alloc, text)?;
-    Ok(compile(alloc, &interface, plan)?)
-}
-
 fn is_code(code: Option<&VerifiedCode>, column: Column, ops: &[Op]) -> bool {
     match code {
         Some(code) => code.column() == column && code.ops() == ops,
@@ -388,29 +383,23 @@ fn is_code(code: Option<&VerifiedCode>, column: Column, ops: &[Op]) -> bool {
     }
 }
 
-fn has_none(program: &Program, msg: MsgNo) -> bool {
-    program.send_code(msg).is_none() && program.receive_code(msg).is_none()
-}
-
 // Whether a program has the row's plan, messages and codes, and no code past the last message.
 fn is_of(program: &Program, row: &Codes) -> bool {
+    let behind = MsgNo(row.messages);
     program.plan() == row.plan
         && program.interface().messages.len() == usize::from(row.messages)
         && is_code(program.send_code(row.msg), Column::Send, row.send)
         && is_code(program.receive_code(row.msg), Column::Receive, row.receive)
-        && has_none(program, MsgNo(row.messages))
-        && has_none(program, MsgNo(65_535))
-}
-
-fn has_duplicate(alloc: Global, program: &Program, row: &Codes) -> Result<bool, AllocError> {
-    let again = program.duplicate(alloc)?;
-    Ok(is_of(&again, row))
+        && program.send_code(behind).is_none()
+        && program.receive_code(behind).is_none()
 }
 
 impl TextCase for Codes {
     fn holds(&self, alloc: Global) -> Result<bool, Fail> {
-        let program = compile_text(alloc, self.text, self.plan)?;
-        Ok(is_of(&program, self) && has_duplicate(alloc, &program, self)?)
+        let interface = interface(alloc, self.text)?;
+        let program = compile(alloc, &interface, self.plan)?;
+        let again = program.duplicate(alloc)?;
+        Ok(is_of(&program, self) && is_of(&again, self))
     }
 }
 

@@ -1,7 +1,5 @@
 //! The fragments that runs of send code give.
 
-ghost use Rattle.fl_machine.specs.Sending.{RunsOn};
-
 use crate::rows::{TextCase, all_hold};
 use crate::stub::verify_tests::verify_ops;
 use fl_base::{Circuit, Frag, MsgNo};
@@ -169,56 +167,7 @@ impl TextCase for SendRow {
     }
 }
 
-// A text of so many letters, and how many fragments its call has.
-struct LettersSent(usize, usize);
-
-const OF_LETTERS: &[LettersSent] = &[
-    LettersSent(0, 1),
-    LettersSent(48, 1),
-    LettersSent(49, 2),
-    LettersSent(4_096, 74),
-];
-
-// A text alone.
-const TEXT: &[Op] = &[Op::Length(4_096), Op::Each, Op::Emit(1), Op::Back, Op::End];
-
-// How many fragments a run gives, a hundred at most.
-fn count_frags(code: &VerifiedCode, run: SendRun) -> usize
-    requires runs { RunsOn code.now run }
-{
-    let mut run = run;
-    for number in 0..100 {
-        if run.next_frag(code).is_none() {
-            return number;
-        }
-    }
-    100
-}
-
-// Whether a run gives so many fragments of a tape.
-fn gives(code: &VerifiedCode, tape: Vec<u64>, frags: usize) -> bool {
-    match code.column() {
-        Column::Send => {}
-        Column::Receive => return false,
-    }
-    count_frags(code, SendRun::start(code, MsgNo(2), Circuit(5), tape)) == frags
-}
-
-impl TextCase for LettersSent {
-    fn holds(&self, alloc: Global) -> Result<bool, Fail> {
-        let Some(code) = verify_ops(alloc, TEXT)? else {
-            return Ok(false);
-        };
-        let mut tape = Vec::from_slice(alloc, &[self.0 as u64])?;
-        for _ in 0..self.0 {
-            tape.push(97)?;
-        }
-        Ok(gives(&code, tape, self.1))
-    }
-}
-
 #[test]
 fn runs_give_their_fragments(rt: HostRuntime) -> Result<(), Fail> {
-    all_hold(rt.alloc(), "rows", SENT)?;
-    all_hold(rt.alloc(), "texts of many letters", OF_LETTERS)
+    all_hold(rt.alloc(), "rows", SENT)
 }

@@ -1,8 +1,6 @@
 //! Which instructions `verify` accepts.
 
-use crate::rows::{TextCase, all_hold};
-use crate::stub::rows::wrong;
-use fl_stub::{Code, Column, Op, VerifiedCode, verify};
+use fl_stub::{Code, Op, VerifiedCode, verify};
 use std::alloc::{AllocError, Global};
 use std::test::Fail;
 
@@ -37,44 +35,9 @@ const RECEIVE: &[Op] = &[
     Op::Done,
 ];
 
-// Instructions that are code of a column.
-struct OfColumn(Column, &'static [Op]);
-
-const CODES: &[OfColumn] = &[
-    OfColumn(Column::Send, SEND),
-    OfColumn(Column::Receive, RECEIVE),
-];
-
-fn is_of(code: &VerifiedCode, column: Column, ops: &[Op]) -> bool {
-    code.column() == column && code.ops() == ops
-}
-
-fn has_duplicate(
-    alloc: Global,
-    code: &VerifiedCode,
-    column: Column,
-    ops: &[Op],
-) -> Result<bool, AllocError> {
-    let again = code.duplicate(alloc)?;
-    Ok(is_of(&again, column, ops))
-}
-
-// The code is of the column, and so is its duplicate.
-impl TextCase for OfColumn {
-    fn holds(&self, alloc: Global) -> Result<bool, Fail> {
-        let Some(code) = verify_ops(alloc, self.1)? else {
-            return Ok(false);
-        };
-        Ok(is_of(&code, self.0, self.1) && has_duplicate(alloc, &code, self.0, self.1)?)
-    }
-}
-
-#[test]
-fn code_of_a_string_between_numbers(rt: HostRuntime) -> Result<(), Fail> {
-    all_hold(rt.alloc(), "codes", CODES)
-}
-
 const ACCEPTED: &[&[Op]] = &[
+    SEND,
+    RECEIVE,
     &[Op::End],
     &[Op::Done],
     &[Op::Times(1_024), Op::Back, Op::End],
@@ -174,22 +137,13 @@ const REFUSED: &[&[Op]] = &[
     ],
 ];
 
-// Whether `verify` answers so on each of the rows.
-fn all_answer(alloc: Global, rows: &[&[Op]], wanted: bool) -> Result<(), Fail> {
-    for (index, ops) in rows.iter().enumerate() {
-        if verify_ops(alloc, ops)?.is_some() != wanted {
-            return Err(wrong(index));
-        }
+#[test]
+fn accepted_and_refused(rt: HostRuntime) -> Result<(), Fail> {
+    for ops in ACCEPTED {
+        assert!(rt; verify_ops(rt.alloc(), ops)?.is_some());
+    }
+    for ops in REFUSED {
+        assert!(rt; verify_ops(rt.alloc(), ops)?.is_none());
     }
     Ok(())
-}
-
-#[test]
-fn accept(rt: HostRuntime) -> Result<(), Fail> {
-    all_answer(rt.alloc(), ACCEPTED, true)
-}
-
-#[test]
-fn refuse(rt: HostRuntime) -> Result<(), Fail> {
-    all_answer(rt.alloc(), REFUSED, false)
 }

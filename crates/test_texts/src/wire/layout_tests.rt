@@ -3,12 +3,10 @@
 
 use crate::interfaces::interface;
 use crate::rows::{TextCase, all_hold};
-use crate::wire::payload_tests::send;
-use crate::wire::strings::{STRING, letters};
 use fl_base::MsgNo;
 use fl_layout::{Plans, plan};
 use fl_value::{ValueFault, read_call};
-use fl_value_data::{Call, PlanNo, fits};
+use fl_value_data::{PlanNo, fits};
 use fl_wire::fragment_count;
 use std::alloc::Global;
 use std::test::Fail;
@@ -48,9 +46,6 @@ const MIXED: &[u8] = b"interface i {
 }";
 
 const DYNAMIC: &[u8] = b"interface i { message m(string s[3], uint8 b[n, 2], uint16 c); }";
-
-const STRUCTS: &[u8] =
-    b"interface i { typedef struct { uint8 a; uint64 b; } t; message m(t x[n]); }";
 
 const TOLD: &[MessageFigures] = &[
     MessageFigures {
@@ -207,19 +202,14 @@ fn figures(plans: &Plans, msg: MsgNo) -> Option<[usize; 4]> {
     ])
 }
 
-// An argument's place and size.
-fn argument(plans: &Plans, msg: MsgNo, j: usize) -> (Option<usize>, usize) {
-    (plans.place(msg, j), plans.arg_size(msg, j))
-}
-
 // Whether a message's arguments have these places and sizes, and there is none behind them.
 fn has_arguments(plans: &Plans, msg: MsgNo, wanted: &[(Option<usize>, usize)]) -> bool {
-    for (j, one) in wanted.iter().enumerate() {
-        if argument(plans, msg, j) != *one {
+    for (j, (place, size)) in wanted.iter().enumerate() {
+        if plans.place(msg, j) != *place || plans.arg_size(msg, j) != *size {
             return false;
         }
     }
-    argument(plans, msg, wanted.len()) == (None, 0)
+    plans.place(msg, wanted.len()).is_none()
 }
 
 impl TextCase for MessageFigures {
@@ -232,120 +222,41 @@ impl TextCase for MessageFigures {
     }
 }
 
-// An interface's text, a call of it, and the bytes and fragments that it has under each plan.
-struct CallFigures {
-    text: &'static [u8],
-    call: &'static [u8],
-    one: (usize, usize),
-    two: (usize, usize),
-}
-
-const EXTENTS: &[CallFigures] = &[
-    CallFigures {
-        text: BETWEEN,
-        call: b"m(1, \"hi\", 5)",
-        one: (26, 1),
-        two: (18, 1),
-    },
-    CallFigures {
-        text: BETWEEN,
-        call: b"m(1, \"\", 5)",
-        one: (18, 1),
-        two: (16, 1),
-    },
-    CallFigures {
-        text: BLOCK,
-        call: b"nop()",
-        one: (0, 1),
-        two: (0, 1),
-    },
-    CallFigures {
-        text: MIXED,
-        call: b"m(-1, [0, 1, 0], [-2, 3], \"four\", 5)",
-        one: (44, 1),
-        two: (36, 1),
-    },
-    CallFigures {
-        text: DYNAMIC,
-        call: b"m(\"\", [], 7)",
-        one: (18, 1),
-        two: (24, 1),
-    },
-    CallFigures {
-        text: STRUCTS,
-        call: b"m([{1, 11}, {2, 12}, {3, 13}, {4, 14}, {5, 15}, {6, 16}, {7, 17}])",
-        one: (120, 3),
-        two: (120, 3),
-    },
-];
-
-// The bytes and the fragments of a call; nothing where it doesn't fit.
-fn measure(plans: &Plans, call: &Call) -> Option<(usize, usize)> {
-    if !fits(call, &plans.interface) {
-        return None;
-    }
-    Some((plans.size_of(call), plans.fragments_of(call)))
-}
-
-// Whether a call that stands as text has so many bytes and fragments, as the plans say and as it is sent.
-fn measures(
-    alloc: Global,
-    plans: &Plans,
-    text: &[u8],
-    wanted: (usize, usize),
-) -> Result<bool, ValueFault> {
-    let call = read_call(alloc, text, &plans.interface)?;
-    match send(alloc, plans.plan, &plans.interface, &call)? {
-        Some((len, frags)) => Ok(
-            (len, frags.len()) == wanted && measure(plans, &call) == Some(wanted),
-        ),
-        None => Ok(false),
-    }
-}
-
-fn is_sent(
-    alloc: Global,
-    text: &[u8],
-    call: &[u8],
-    plan: PlanNo,
-    wanted: (usize, usize),
-) -> Result<bool, Fail> {
-    let plans = make_plans(alloc, text, plan)?;
-    Ok(measures(alloc, &plans, call, wanted)?)
-}
-
-impl TextCase for CallFigures {
-    fn holds(&self, alloc: Global) -> Result<bool, Fail> {
-        Ok(
-            is_sent(alloc, self.text, self.call, PlanNo::One, self.one)?
-                && is_sent(alloc, self.text, self.call, PlanNo::Two, self.two)?,
-        )
-    }
-}
-
-// A call of so many letters, the length of its payload and the number of its fragments under either plan.
-struct LettersPayload(usize, (usize, usize));
+// A call of a text of so many letters, the length of its payload and the number of its fragments under either plan.
+struct LettersPayload(usize, usize, usize);
 
 const OF_LETTERS: &[LettersPayload] = &[
-    LettersPayload(0, (8, 1)),
-    LettersPayload(48, (56, 1)),
-    LettersPayload(49, (57, 2)),
-    LettersPayload(4096, (4104, 74)),
+    LettersPayload(0, 8, 1),
+    LettersPayload(48, 56, 1),
+    LettersPayload(49, 57, 2),
+    LettersPayload(4_096, 4_104, 74),
 ];
 
-impl TextCase for LettersPayload {
-    fn holds(&self, alloc: Global) -> Result<bool, Fail> {
-        let call = letters(alloc, self.0)?;
-        Ok(
-            is_sent(alloc, STRING, &call, PlanNo::One, self.1)?
-                && is_sent(alloc, STRING, &call, PlanNo::Two, self.1)?,
-        )
+const STRING: &[u8] = b"interface i { message m(string s[4096]); }";
+
+const PLANS: &[PlanNo] = &[PlanNo::One, PlanNo::Two];
+
+fn is_long(alloc: Global, plans: &Plans, row: &LettersPayload) -> Result<bool, ValueFault> {
+    let mut text = b"m(\"".to_vec(alloc)?;
+    for _ in 0..row.0 {
+        text.push(b'a')?;
     }
+    text.extend_from_slice(b"\")")?;
+    let call = read_call(alloc, &text, &plans.interface)?;
+    if !fits(&call, &plans.interface) {
+        return Ok(false);
+    }
+    Ok(plans.size_of(&call) == row.1 && plans.fragments_of(&call) == row.2)
 }
 
 #[test]
 fn lengths_places_and_sizes(rt: HostRuntime) -> Result<(), Fail> {
     all_hold(rt.alloc(), "what is told of messages", TOLD)?;
-    all_hold(rt.alloc(), "calls", EXTENTS)?;
-    all_hold(rt.alloc(), "strings", OF_LETTERS)
+    for number in PLANS {
+        let plans = make_plans(rt.alloc(), STRING, *number)?;
+        for row in OF_LETTERS {
+            assert!(rt; is_long(rt.alloc(), &plans, row)?);
+        }
+    }
+    Ok(())
 }

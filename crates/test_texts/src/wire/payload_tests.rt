@@ -4,7 +4,7 @@
 
 use crate::interfaces::interface;
 use crate::rows::{TextCase, all_hold};
-use fl_base::{Frag, MsgNo};
+use fl_base::Frag;
 use fl_interface::Interface;
 use fl_value::{ValueFault, print_call, read_call};
 use fl_value_data::{Call, PlanNo, fits};
@@ -258,74 +258,6 @@ const CARRIED: &[PayloadRow] = &[
     },
 ];
 
-// The payload of a call; nothing where it doesn't fit.
-fn payload_of(
-    alloc: Global,
-    plan: PlanNo,
-    interface: &Interface,
-    call: &Call,
-) -> Result<Option<Vec<u8>>, AllocError> {
-    if !fits(call, interface) {
-        return Ok(None);
-    }
-    Ok(Some(payload(alloc, interface, plan, call)?))
-}
-
-// Fragment `k` of a call; nothing where it doesn't fit.
-fn frag_of(
-    alloc: Global,
-    plan: PlanNo,
-    interface: &Interface,
-    call: &Call,
-    k: usize,
-) -> Result<Option<Frag>, AllocError> {
-    if !fits(call, interface) {
-        return Ok(None);
-    }
-    fragment_at(alloc, interface, call, k, plan)
-}
-
-fn frags_of(alloc: Global, payload: &[u8], msg: MsgNo) -> Result<Vec<Frag>, AllocError> {
-    let mut frags = Vec::new(alloc);
-    for k in 0..fragment_count(payload.len()) {
-        frags.push(fragment(payload, msg, k))?;
-    }
-    Ok(frags)
-}
-
-// Whether a call has these fragments one by one, and none behind them.
-fn has_frags(
-    alloc: Global,
-    plan: PlanNo,
-    interface: &Interface,
-    call: &Call,
-    frags: &[Frag],
-) -> Result<bool, AllocError> {
-    for (k, frag) in frags.iter().enumerate() {
-        if frag_of(alloc, plan, interface, call, k)? != Some(*frag) {
-            return Ok(false);
-        }
-    }
-    Ok(frag_of(alloc, plan, interface, call, frags.len())?.is_none())
-}
-
-/// The payload's length and the fragments of a call; nothing where it doesn't fit, or has others one by one.
-pub fn send(
-    alloc: Global,
-    plan: PlanNo,
-    interface: &Interface,
-    call: &Call,
-) -> Result<Option<(usize, Vec<Frag>)>, AllocError> {
-    let Some(bytes) = payload_of(alloc, plan, interface, call)? else {
-        return Ok(None);
-    };
-    let frags = frags_of(alloc, &bytes, call.msg)?;
-    if !has_frags(alloc, plan, interface, call, &frags)? {
-        return Ok(None);
-    }
-    Ok(Some((bytes.len(), frags)))
-}
-
 // Whether fragments mean a call with this text; with an empty one, whether they mean none yet.
 fn reads_as(
     alloc: Global,
@@ -357,6 +289,21 @@ fn is_read(
     reads_as(alloc, plan, interface, frags, text)
 }
 
+// Fragment `k` of a call; nothing where it doesn't fit.
+fn frag_of(
+    alloc: Global,
+    plan: PlanNo,
+    interface: &Interface,
+    call: &Call,
+    k: usize,
+) -> Result<Option<Frag>, AllocError> {
+    if !fits(call, interface) {
+        return Ok(None);
+    }
+    fragment_at(alloc, interface, call, k, plan)
+}
+
+// Whether a call that stands as text has the row's payload and its fragments, one by one and none behind them.
 fn is_sent(
     alloc: Global,
     plan: PlanNo,
@@ -364,10 +311,22 @@ fn is_sent(
     row: &PayloadRow,
 ) -> Result<bool, ValueFault> {
     let call = read_call(alloc, row.call, interface)?;
-    match send(alloc, plan, interface, &call)? {
-        Some((len, frags)) => Ok(len == row.len && frags.as_slice() == row.frags),
-        None => Ok(false),
+    if !fits(&call, interface) {
+        return Ok(false);
     }
+    let bytes = payload(alloc, interface, plan, &call)?;
+    for (k, frag) in row.frags.iter().enumerate() {
+        if fragment(&bytes, call.msg, k) != *frag
+            || frag_of(alloc, plan, interface, &call, k)? != Some(*frag)
+        {
+            return Ok(false);
+        }
+    }
+    Ok(
+        bytes.len() == row.len
+            && fragment_count(bytes.len()) == row.frags.len()
+            && frag_of(alloc, plan, interface, &call, row.frags.len())?.is_none(),
+    )
 }
 
 // It is so under each of the plans, and the fragments are read back.

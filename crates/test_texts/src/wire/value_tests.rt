@@ -1,15 +1,11 @@
-//! Calls as text: which texts are calls, which calls fit, how they are printed, and that they come back from their
-//! tapes.
+//! Calls as text: which texts are calls, which calls fit, and how they are printed.
 
 use crate::interfaces::interface;
-use crate::rows::{TextCase, all_hold};
-use fl_base::MsgNo;
 use fl_interface::Interface;
 use fl_value::{
     ValueFault, law_one_reading, law_printed_call_read, law_printed_reads, print_call, read_call,
-    read_call_text, read_spoken, resolve,
 };
-use fl_value_data::{Call, PlanNo, Value, fits, flatten, unflatten};
+use fl_value_data::Call;
 use std::alloc::{AllocError, Global};
 use std::test::Fail;
 
@@ -46,242 +42,177 @@ const TYPES: &[u8] = b"interface types {
     message six(bool a, string b[4], uint16 c, bytes d, uint32 e[n, 4], int64 f);
 }";
 
-// Calls in their printed form, among them the least and the greatest value of each type.
-struct PrintedCall(&'static [u8]);
+// A text, and the call that it is as it is printed, or the number of its fault.
+struct Spoken(&'static [u8], Result<&'static [u8], u8>);
 
-const PRINTED: &[PrintedCall] = &[
-    PrintedCall(b"u8(0)"),
-    PrintedCall(b"u8(1)"),
-    PrintedCall(b"u8(255)"),
-    PrintedCall(b"i8(-128)"),
-    PrintedCall(b"i8(127)"),
-    PrintedCall(b"b(0)"),
-    PrintedCall(b"b(1)"),
-    PrintedCall(b"c(0)"),
-    PrintedCall(b"c(1)"),
-    PrintedCall(b"c(255)"),
-    PrintedCall(b"u16(0)"),
-    PrintedCall(b"u16(1)"),
-    PrintedCall(b"u16(65535)"),
-    PrintedCall(b"i16(-32768)"),
-    PrintedCall(b"i16(-128)"),
-    PrintedCall(b"i16(127)"),
-    PrintedCall(b"i16(32767)"),
-    PrintedCall(b"u32(0)"),
-    PrintedCall(b"u32(1)"),
-    PrintedCall(b"u32(4294967295)"),
-    PrintedCall(b"i32(-2147483648)"),
-    PrintedCall(b"i32(-128)"),
-    PrintedCall(b"i32(127)"),
-    PrintedCall(b"i32(2147483647)"),
-    PrintedCall(b"ir(0)"),
-    PrintedCall(b"ir(1)"),
-    PrintedCall(b"ir(4294967295)"),
-    PrintedCall(b"u64(0)"),
-    PrintedCall(b"u64(1)"),
-    PrintedCall(b"u64(18446744073709551615)"),
-    PrintedCall(b"i64(-9223372036854775808)"),
-    PrintedCall(b"i64(-128)"),
-    PrintedCall(b"i64(127)"),
-    PrintedCall(b"i64(9223372036854775807)"),
-    PrintedCall(b"up(0)"),
-    PrintedCall(b"up(1)"),
-    PrintedCall(b"up(18446744073709551615)"),
-    PrintedCall(b"ip(-9223372036854775808)"),
-    PrintedCall(b"ip(-128)"),
-    PrintedCall(b"ip(127)"),
-    PrintedCall(b"ip(9223372036854775807)"),
-    PrintedCall(b"sz(0)"),
-    PrintedCall(b"sz(1)"),
-    PrintedCall(b"sz(18446744073709551615)"),
-    PrintedCall(b"ev(0)"),
-    PrintedCall(b"ev(1)"),
-    PrintedCall(b"ev(18446744073709551615)"),
-    PrintedCall(b"enumerator(0)"),
-    PrintedCall(b"enumerator(2)"),
-    PrintedCall(b"array([0, 0])"),
-    PrintedCall(b"array([255, 255])"),
-    PrintedCall(b"structure({0, 1})"),
-    PrintedCall(b"structure({1, 0})"),
-    PrintedCall(b"two(\"\")"),
-    PrintedCall(b"two(\"hi\")"),
-    PrintedCall(b"four(\"\")"),
-    PrintedCall(b"four(\"\\x01\\xffab\")"),
-    PrintedCall(b"sized([])"),
-    PrintedCall(b"sized([1, 2])"),
-    PrintedCall(b"arrays([[0, 2], [1, 1]])"),
-    PrintedCall(b"structures([{1, 7}, {0, 255}])"),
-    PrintedCall(b"six(1, \"hi\", 5, [1, 2], [7, 8, 9], -1)"),
-];
-
-// Other spellings of calls, and their printed form.
-struct SpelledCall(&'static [u8], &'static [u8]);
-
-const SPELLED: &[SpelledCall] = &[
-    SpelledCall(b"u8( 007 )", b"u8(7)"),
-    SpelledCall(b"u8(-0)", b"u8(0)"),
-    SpelledCall(b"text(\"\\x41\\xE9\")", b"text(\"A\\xe9\")"),
-    SpelledCall(b" arrays ([[0, 2],[1,1]]) ", b"arrays([[0, 2], [1, 1]])"),
+// The least and the greatest value of each type, and other spellings.
+const SPOKEN: &[Spoken] = &[
+    Spoken(b"u8(0)", Ok(b"u8(0)")),
+    Spoken(b"u8(1)", Ok(b"u8(1)")),
+    Spoken(b"u8(255)", Ok(b"u8(255)")),
+    Spoken(b"i8(-128)", Ok(b"i8(-128)")),
+    Spoken(b"i8(127)", Ok(b"i8(127)")),
+    Spoken(b"b(0)", Ok(b"b(0)")),
+    Spoken(b"b(1)", Ok(b"b(1)")),
+    Spoken(b"c(0)", Ok(b"c(0)")),
+    Spoken(b"c(1)", Ok(b"c(1)")),
+    Spoken(b"c(255)", Ok(b"c(255)")),
+    Spoken(b"u16(0)", Ok(b"u16(0)")),
+    Spoken(b"u16(1)", Ok(b"u16(1)")),
+    Spoken(b"u16(65535)", Ok(b"u16(65535)")),
+    Spoken(b"i16(-32768)", Ok(b"i16(-32768)")),
+    Spoken(b"i16(-128)", Ok(b"i16(-128)")),
+    Spoken(b"i16(127)", Ok(b"i16(127)")),
+    Spoken(b"i16(32767)", Ok(b"i16(32767)")),
+    Spoken(b"u32(0)", Ok(b"u32(0)")),
+    Spoken(b"u32(1)", Ok(b"u32(1)")),
+    Spoken(b"u32(4294967295)", Ok(b"u32(4294967295)")),
+    Spoken(b"i32(-2147483648)", Ok(b"i32(-2147483648)")),
+    Spoken(b"i32(-128)", Ok(b"i32(-128)")),
+    Spoken(b"i32(127)", Ok(b"i32(127)")),
+    Spoken(b"i32(2147483647)", Ok(b"i32(2147483647)")),
+    Spoken(b"ir(0)", Ok(b"ir(0)")),
+    Spoken(b"ir(1)", Ok(b"ir(1)")),
+    Spoken(b"ir(4294967295)", Ok(b"ir(4294967295)")),
+    Spoken(b"u64(0)", Ok(b"u64(0)")),
+    Spoken(b"u64(1)", Ok(b"u64(1)")),
+    Spoken(
+        b"u64(18446744073709551615)",
+        Ok(b"u64(18446744073709551615)"),
+    ),
+    Spoken(
+        b"i64(-9223372036854775808)",
+        Ok(b"i64(-9223372036854775808)"),
+    ),
+    Spoken(b"i64(-128)", Ok(b"i64(-128)")),
+    Spoken(b"i64(127)", Ok(b"i64(127)")),
+    Spoken(b"i64(9223372036854775807)", Ok(b"i64(9223372036854775807)")),
+    Spoken(b"up(0)", Ok(b"up(0)")),
+    Spoken(b"up(1)", Ok(b"up(1)")),
+    Spoken(b"up(18446744073709551615)", Ok(b"up(18446744073709551615)")),
+    Spoken(b"ip(-9223372036854775808)", Ok(b"ip(-9223372036854775808)")),
+    Spoken(b"ip(-128)", Ok(b"ip(-128)")),
+    Spoken(b"ip(127)", Ok(b"ip(127)")),
+    Spoken(b"ip(9223372036854775807)", Ok(b"ip(9223372036854775807)")),
+    Spoken(b"sz(0)", Ok(b"sz(0)")),
+    Spoken(b"sz(1)", Ok(b"sz(1)")),
+    Spoken(b"sz(18446744073709551615)", Ok(b"sz(18446744073709551615)")),
+    Spoken(b"ev(0)", Ok(b"ev(0)")),
+    Spoken(b"ev(1)", Ok(b"ev(1)")),
+    Spoken(b"ev(18446744073709551615)", Ok(b"ev(18446744073709551615)")),
+    Spoken(b"enumerator(0)", Ok(b"enumerator(0)")),
+    Spoken(b"enumerator(2)", Ok(b"enumerator(2)")),
+    Spoken(b"array([0, 0])", Ok(b"array([0, 0])")),
+    Spoken(b"array([255, 255])", Ok(b"array([255, 255])")),
+    Spoken(b"structure({0, 1})", Ok(b"structure({0, 1})")),
+    Spoken(b"structure({1, 0})", Ok(b"structure({1, 0})")),
+    Spoken(b"two(\"\")", Ok(b"two(\"\")")),
+    Spoken(b"two(\"hi\")", Ok(b"two(\"hi\")")),
+    Spoken(b"four(\"\")", Ok(b"four(\"\")")),
+    Spoken(b"four(\"\\x01\\xffab\")", Ok(b"four(\"\\x01\\xffab\")")),
+    Spoken(b"sized([])", Ok(b"sized([])")),
+    Spoken(b"sized([1, 2])", Ok(b"sized([1, 2])")),
+    Spoken(b"arrays([[0, 2], [1, 1]])", Ok(b"arrays([[0, 2], [1, 1]])")),
+    Spoken(
+        b"structures([{1, 7}, {0, 255}])",
+        Ok(b"structures([{1, 7}, {0, 255}])"),
+    ),
+    Spoken(
+        b"six(1, \"hi\", 5, [1, 2], [7, 8, 9], -1)",
+        Ok(b"six(1, \"hi\", 5, [1, 2], [7, 8, 9], -1)"),
+    ),
+    Spoken(b"u8( 007 )", Ok(b"u8(7)")),
+    Spoken(b"u8(-0)", Ok(b"u8(0)")),
+    Spoken(b"text(\"\\x41\\xE9\")", Ok(b"text(\"A\\xe9\")")),
+    Spoken(
+        b" arrays ([[0, 2],[1,1]]) ",
+        Ok(b"arrays([[0, 2], [1, 1]])"),
+    ),
 ];
 
 // Texts that are no call (90), of no message (41), or whose arguments don't fit (42).
-struct RefusedCall(&'static [u8], u8);
-
-const REFUSED: &[RefusedCall] = &[
-    RefusedCall(b"u8(-1)", 42),
-    RefusedCall(b"u8(256)", 42),
-    RefusedCall(b"i8(-129)", 42),
-    RefusedCall(b"i8(128)", 42),
-    RefusedCall(b"b(-1)", 42),
-    RefusedCall(b"b(2)", 42),
-    RefusedCall(b"c(-1)", 42),
-    RefusedCall(b"c(256)", 42),
-    RefusedCall(b"u16(-1)", 42),
-    RefusedCall(b"u16(65536)", 42),
-    RefusedCall(b"i16(-32769)", 42),
-    RefusedCall(b"i16(32768)", 42),
-    RefusedCall(b"u32(-1)", 42),
-    RefusedCall(b"u32(4294967296)", 42),
-    RefusedCall(b"i32(-2147483649)", 42),
-    RefusedCall(b"i32(2147483648)", 42),
-    RefusedCall(b"ir(-1)", 42),
-    RefusedCall(b"ir(4294967296)", 42),
-    RefusedCall(b"u64(-1)", 42),
-    RefusedCall(b"u64(18446744073709551616)", 42),
-    RefusedCall(b"i64(-9223372036854775809)", 42),
-    RefusedCall(b"i64(9223372036854775808)", 42),
-    RefusedCall(b"up(-1)", 42),
-    RefusedCall(b"up(18446744073709551616)", 42),
-    RefusedCall(b"ip(-9223372036854775809)", 42),
-    RefusedCall(b"ip(9223372036854775808)", 42),
-    RefusedCall(b"sz(-1)", 42),
-    RefusedCall(b"sz(18446744073709551616)", 42),
-    RefusedCall(b"ev(-1)", 42),
-    RefusedCall(b"ev(18446744073709551616)", 42),
-    RefusedCall(b"enumerator(-1)", 42),
-    RefusedCall(b"enumerator(3)", 42),
-    RefusedCall(b"array([1])", 42),
-    RefusedCall(b"array({1, 2})", 42),
-    RefusedCall(b"structure({1})", 42),
-    RefusedCall(b"structure([1, 2])", 42),
-    RefusedCall(b"two(\"hip\")", 42),
-    RefusedCall(b"two(\"\\x00\")", 42),
-    RefusedCall(b"sized([1, 2, 3])", 42),
-    RefusedCall(b"sized([256])", 42),
-    RefusedCall(b"arrays([[0, 3]])", 42),
-    RefusedCall(b"text(\"\\x00\")", 42),
+const REFUSED: &[Spoken] = &[
+    Spoken(b"u8(-1)", Err(42)),
+    Spoken(b"u8(256)", Err(42)),
+    Spoken(b"i8(-129)", Err(42)),
+    Spoken(b"i8(128)", Err(42)),
+    Spoken(b"b(-1)", Err(42)),
+    Spoken(b"b(2)", Err(42)),
+    Spoken(b"c(-1)", Err(42)),
+    Spoken(b"c(256)", Err(42)),
+    Spoken(b"u16(-1)", Err(42)),
+    Spoken(b"u16(65536)", Err(42)),
+    Spoken(b"i16(-32769)", Err(42)),
+    Spoken(b"i16(32768)", Err(42)),
+    Spoken(b"u32(-1)", Err(42)),
+    Spoken(b"u32(4294967296)", Err(42)),
+    Spoken(b"i32(-2147483649)", Err(42)),
+    Spoken(b"i32(2147483648)", Err(42)),
+    Spoken(b"ir(-1)", Err(42)),
+    Spoken(b"ir(4294967296)", Err(42)),
+    Spoken(b"u64(-1)", Err(42)),
+    Spoken(b"u64(18446744073709551616)", Err(42)),
+    Spoken(b"i64(-9223372036854775809)", Err(42)),
+    Spoken(b"i64(9223372036854775808)", Err(42)),
+    Spoken(b"up(-1)", Err(42)),
+    Spoken(b"up(18446744073709551616)", Err(42)),
+    Spoken(b"ip(-9223372036854775809)", Err(42)),
+    Spoken(b"ip(9223372036854775808)", Err(42)),
+    Spoken(b"sz(-1)", Err(42)),
+    Spoken(b"sz(18446744073709551616)", Err(42)),
+    Spoken(b"ev(-1)", Err(42)),
+    Spoken(b"ev(18446744073709551616)", Err(42)),
+    Spoken(b"enumerator(-1)", Err(42)),
+    Spoken(b"enumerator(3)", Err(42)),
+    Spoken(b"array([1])", Err(42)),
+    Spoken(b"array({1, 2})", Err(42)),
+    Spoken(b"structure({1})", Err(42)),
+    Spoken(b"structure([1, 2])", Err(42)),
+    Spoken(b"two(\"hip\")", Err(42)),
+    Spoken(b"two(\"\\x00\")", Err(42)),
+    Spoken(b"sized([1, 2, 3])", Err(42)),
+    Spoken(b"sized([256])", Err(42)),
+    Spoken(b"arrays([[0, 3]])", Err(42)),
+    Spoken(b"text(\"\\x00\")", Err(42)),
     // 20 brackets, and 21
-    RefusedCall(b"text([[[[[[[[[[[[[[[[[[[[]]]]]]]]]]]]]]]]]]]])", 42),
-    RefusedCall(b"text([[[[[[[[[[[[[[[[[[[[[]]]]]]]]]]]]]]]]]]]]])", 90),
-    RefusedCall(b"text(\"\\x4g\")", 90),
-    RefusedCall(b"text(\"a\tb\")", 90),
-    RefusedCall(b"u8(000000000000000000001)", 90),
-    RefusedCall(b"u8(- 5)", 90),
-    RefusedCall(b"", 90),
+    Spoken(b"text([[[[[[[[[[[[[[[[[[[[]]]]]]]]]]]]]]]]]]]])", Err(42)),
+    Spoken(b"text([[[[[[[[[[[[[[[[[[[[[]]]]]]]]]]]]]]]]]]]]])", Err(90)),
+    Spoken(b"text(\"\\x4g\")", Err(90)),
+    Spoken(b"text(\"a\tb\")", Err(90)),
+    Spoken(b"u8(000000000000000000001)", Err(90)),
+    Spoken(b"u8(- 5)", Err(90)),
+    Spoken(b"", Err(90)),
     // what is no call comes first, then the name, then the arguments
-    RefusedCall(b"ping(7", 90),
-    RefusedCall(b"u32(7) 8", 90),
-    RefusedCall(b"ping(1)", 41),
-    RefusedCall(b"ping(\"x\")", 41),
-    RefusedCall(b"u32(\"x\")", 42),
-    RefusedCall(b"u32(1, 2)", 42),
-    RefusedCall(b"u32()", 42),
+    Spoken(b"ping(7", Err(90)),
+    Spoken(b"u32(7) 8", Err(90)),
+    Spoken(b"ping(1)", Err(41)),
+    Spoken(b"ping(\"x\")", Err(41)),
+    Spoken(b"u32(\"x\")", Err(42)),
+    Spoken(b"u32(1, 2)", Err(42)),
+    Spoken(b"u32()", Err(42)),
 ];
 
-fn name_of(alloc: Global, text: &[u8]) -> Result<&[u8], ValueFault> {
-    let (name, _values) = read_spoken(alloc, text, Vec::new(alloc))?;
-    Ok(name)
-}
-
-// Whether values are printed as those of this text, behind its name.
-fn is_printed(alloc: Global, values: &[Value], text: &[u8]) -> Result<bool, ValueFault> {
-    let name = name_of(alloc, text)?;
+// Whether a call is printed so.
+fn is_printed(
+    alloc: Global,
+    types: &Interface,
+    call: &Call,
+    text: &[u8],
+) -> Result<bool, AllocError> {
+    let Some(message) = types.messages.get(usize::from(call.msg.0)) else {
+        return Ok(false);
+    };
     let mut out = Vec::new(alloc);
-    print_call(alloc, &mut out, name, values)?;
+    print_call(alloc, &mut out, &message.name.bytes, &call.args)?;
     Ok(out.as_slice() == text)
 }
 
-// The call of a text, read without an interface and then found in it.
-fn read_and_resolve(alloc: Global, interface: &Interface, text: &[u8]) -> Result<Call, ValueFault> {
-    resolve(interface, read_call_text(alloc, text)?)
-}
-
-// What comes back of a call from its tape.
-fn back(
-    alloc: Global,
-    interface: &Interface,
-    plan: PlanNo,
-    call: &Call,
-) -> Result<Option<Call>, AllocError> {
-    let tape = flatten(alloc, call, interface, plan)?;
-    unflatten(alloc, call.msg, &tape, interface, plan)
-}
-
-// Whether a call with this text comes back.
-fn is_back(
-    alloc: Global,
-    interface: &Interface,
-    plan: PlanNo,
-    call: &Call,
-    text: &[u8],
-) -> Result<bool, ValueFault> {
-    match back(alloc, interface, plan, call)? {
-        Some(call) => is_printed(alloc, &call.args, text),
-        None => Ok(false),
-    }
-}
-
-// It fits, and comes back from its tape, under both plans.
-impl TextCase for PrintedCall {
-    fn holds(&self, alloc: Global) -> Result<bool, Fail> {
-        let types = interface(alloc, TYPES)?;
-        let call = read_call(alloc, self.0, &types)?;
-        Ok(
-            fits(&call, &types)
-                && is_back(alloc, &types, PlanNo::One, &call, self.0)?
-                && is_back(alloc, &types, PlanNo::Two, &call, self.0)?,
-        )
-    }
-}
-
-impl TextCase for SpelledCall {
-    fn holds(&self, alloc: Global) -> Result<bool, Fail> {
-        let types = interface(alloc, TYPES)?;
-        let call = read_and_resolve(alloc, &types, self.0)?;
-        Ok(is_printed(alloc, &call.args, self.1)?)
-    }
-}
-
-// The number of the fault of a call's text.
-fn fault_of(alloc: Global, interface: &Interface, text: &[u8]) -> Option<u8> {
-    match read_call(alloc, text, interface) {
-        Ok(_) => None,
-        Err(fault) => Some(fault.number()),
-    }
-}
-
-impl TextCase for RefusedCall {
-    fn holds(&self, alloc: Global) -> Result<bool, Fail> {
-        let types = interface(alloc, TYPES)?;
-        Ok(fault_of(alloc, &types, self.0) == Some(self.1))
-    }
-}
-
-// A message, and whether the arguments of `m(1)` fit it.
-struct FitRow(MsgNo, bool);
-
-const NUMBERED: &[FitRow] = &[
-    FitRow(MsgNo(0), true),
-    // an interface of one message has no other
-    FitRow(MsgNo(1), false),
-];
-
-impl TextCase for FitRow {
-    fn holds(&self, alloc: Global) -> Result<bool, Fail> {
-        let one = interface(alloc, b"interface i { message m(uint8 x); }")?;
-        let mut call = read_call(alloc, b"m(1)", &one)?;
-        call.msg = self.0;
-        Ok(fits(&call, &one) == self.1)
+fn comes_to(alloc: Global, types: &Interface, row: &Spoken) -> Result<bool, ValueFault> {
+    match (read_call(alloc, row.0, types), row.1) {
+        (Ok(call), Ok(text)) => Ok(is_printed(alloc, types, &call, text)?),
+        (Err(fault), Err(number)) => Ok(fault.number() == number),
+        (Err(fault), Ok(_)) => Err(fault),
+        (Ok(_), Err(_)) => Ok(false),
     }
 }
 
@@ -290,8 +221,12 @@ fn calls_as_text(rt: HostRuntime) -> Result<(), Fail> {
     law_printed_reads();
     law_printed_call_read();
     law_one_reading();
-    all_hold(rt.alloc(), "printed calls", PRINTED)?;
-    all_hold(rt.alloc(), "other spellings", SPELLED)?;
-    all_hold(rt.alloc(), "refused texts", REFUSED)?;
-    all_hold(rt.alloc(), "messages", NUMBERED)
+    let types = interface(rt.alloc(), TYPES)?;
+    for row in SPOKEN {
+        assert!(rt; comes_to(rt.alloc(), &types, row)?);
+    }
+    for row in REFUSED {
+        assert!(rt; comes_to(rt.alloc(), &types, row)?);
+    }
+    Ok(())
 }
