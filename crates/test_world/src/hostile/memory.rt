@@ -5,7 +5,6 @@ use crate::hostile::rows::{CIRCUITS, HostileScript, REPLIES, RING, STRINGS, WAIT
 use fl_script_exec::{ExecFault, exec};
 use fl_world::World;
 use std::alloc::Global;
-use std::test::Fail;
 
 // Whether a script writes its transcript; or, out of memory, some whole lines of it and not all.
 fn is_cut_short_at_most(alloc: Global, row: HostileScript) -> bool {
@@ -29,17 +28,9 @@ fn is_cut_short_at_most(alloc: Global, row: HostileScript) -> bool {
 
 const ROWS: &[HostileScript] = &[CIRCUITS, RING, STRINGS, WAITSETS, REPLIES];
 
-// Tells which row is the first that isn't so.
-fn all_are_cut_short_at_most(alloc: Global) -> Result<(), Fail> {
-    for (index, row) in ROWS.iter().enumerate() {
-        if !is_cut_short_at_most(alloc, *row) {
-            return Err(Fail::new(format_args!("row {index}, counted from 0, is wrong")));
-        }
-    }
-    Ok(())
-}
-
 #[test]
-fn scripts_without_memory(rt: HostRuntime) -> Result<(), Fail> {
-    all_are_cut_short_at_most(rt.alloc())
+fn scripts_without_memory(rt: HostRuntime) {
+    for row in ROWS {
+        assert!(rt; is_cut_short_at_most(rt.alloc(), *row));
+    }
 }
