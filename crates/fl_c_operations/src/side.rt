@@ -4,12 +4,8 @@
 ghost use Rattle.std.specs.Prelude.{◌≡◌, ◌≢◌, ◌==◌, ◌/◌, ◌%◌, ◌^◌, ◌∷◌, [], ◌++◌, length, Some, None};
 ghost use Rattle.std.specs.List.{list_all};
 ghost use Rattle.fl_base.specs.declared.fragment.Frag.{Frag};
-<<<<<<< HEAD:crates/fl_c_operations/src/side.rt
 ghost use Rattle.fl_c_operations.specs.Sides.{numbers_of, Puts, Takes, Peeks, Tells, UsesSide};
-=======
 ghost use Rattle.fl_base.specs.Control.{is_ack_only};
-ghost use Rattle.fl_c.specs.Sides.{numbers_of, Puts, Takes, Peeks, Tells, UsesSide};
->>>>>>> bbdef1fa725d116f8818ec499b3e8e97217650be:crates/fl_c/src/side.rt
 
 use crate::answer::{Outcome, UseFault};
 use crate::operation::Operation;
