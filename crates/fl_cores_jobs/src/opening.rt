@@ -96,7 +96,6 @@ fn path_over(cores: &[u32]) -> Result<Path, CoresLineFault>
 }
 
 // The link on which the route begins.
-#[tactic(auto, using(crate::proofs::Routed::there))]
 fn first_link(
     core: &Core,
     program: &Program,
