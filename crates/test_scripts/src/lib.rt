@@ -4,7 +4,7 @@
 //! - `rows.rt`: tables, of which a test tells the first row that isn't so
 //! - `queues.rt`: worked rows of the machine, proved and not run
 //! - `line.rt`: lines of scripts
-//! - `job.rt`: cores files
+//! - `job.rt`: lines of cores files
 //! - `transcript.rt`: `exec`
 #![tactic(auto)]
 

@@ -2,7 +2,7 @@
 
 use crate::rows::{ScriptCase, all_hold};
 use fl_script_lines::{
-    BackEndText, Command, Line, law_one_line, law_printed_reads, law_spelled_reads, parse_line,
+    Line, law_one_asked, law_one_line, law_printed_reads, law_spelled_reads, parse_line,
     print_command,
 };
 use fl_value_data::PlanNo;
@@ -132,45 +132,18 @@ fn kind_of(line: &[u8]) -> u8 {
     }
 }
 
-fn cores_of(alloc: Global, line: &[u8]) -> Result<Vec<u32>, AllocError> {
-    match parse_line(line) {
-        Line::Command(
-            Command::Bind {
-                back_end: BackEndText::Hop(route),
-                ..
-            },
-        ) => route.cores(alloc),
-        _ => Ok(Vec::new(alloc)),
-    }
-}
-
 impl ScriptCase for Kind {
     fn holds(&self, _alloc: Global) -> Result<bool, Fail> {
         Ok(kind_of(self.0) == self.1)
     }
 }
 
-// A line, and the cores of its route.
-struct RouteLine(&'static [u8], &'static [u32]);
-
-const ROUTES: &[RouteLine] = &[
-    RouteLine(b"bind p d i s hop 0 12 345678901", &[0, 12, 345_678_901]),
-    RouteLine(b"bind p d i s hop 7 ", &[7]),
-];
-
-impl ScriptCase for RouteLine {
-    fn holds(&self, alloc: Global) -> Result<bool, Fail> {
-        let cores = cores_of(alloc, self.0)?;
-        Ok(cores.as_slice() == self.1)
-    }
-}
-
 #[test]
 fn lines_spell_commands(rt: HostRuntime) -> Result<(), Fail> {
     law_one_line();
+    law_one_asked();
     law_printed_reads();
     law_spelled_reads();
     all_hold(rt.alloc(), "lines", SPELLED)?;
-    all_hold(rt.alloc(), "kinds of lines", KINDS)?;
-    all_hold(rt.alloc(), "routes", ROUTES)
+    all_hold(rt.alloc(), "kinds of lines", KINDS)
 }

@@ -2,13 +2,11 @@
 
 ghost use Rattle.std.specs.Prelude.{◌≤◌, IfSome};
 
-use crate::rows::{ScriptCase, all_hold};
 use crate::transcript::still::Still;
 use fl_script_exec::{ExecFault, ScriptReader, exec};
 use std::alloc::Global;
 use std::io;
 use std::io::{ErrorKind, Read, Write};
-use std::test::Fail;
 
 const SCRIPT: &[u8] =
     b"turn d\n# nothing\nidl\ninterface i { message m(cap c); }\n.\ncall p.c m(\ncall p.c m(1)\n\nturn";
@@ -32,7 +30,7 @@ const NEVER: Failing = Failing {
 };
 
 // Each is a fault, also the one that asks to try again.
-const KINDS: [ErrorKind; 2] = [ErrorKind::Other, ErrorKind::Interrupted];
+const KINDS: &[ErrorKind] = &[ErrorKind::Other, ErrorKind::Interrupted];
 
 // Bytes that are read by at most so many a call; one of the calls may fail.
 #[derive(Drop)]
@@ -185,13 +183,10 @@ fn is_written(alloc: Global, step: usize, reads: usize, writes: usize) -> bool {
 }
 
 // A byte at a time each way; then all that there is, a line a write.
-fn are_written(alloc: Global) -> bool {
-    is_written(alloc, 1, SCRIPT.len() + 1, TRANSCRIPT.len()) && is_written(alloc, 512, 2, LINES)
-}
-
 #[test]
 fn little_and_much_at_a_time(rt: HostRuntime) {
-    assert!(rt; are_written(rt.alloc()));
+    assert!(rt; is_written(rt.alloc(), 1, SCRIPT.len() + 1, TRANSCRIPT.len()));
+    assert!(rt; is_written(rt.alloc(), 512, 2, LINES));
 }
 
 fn stops_at_read(alloc: Global, at: usize, kind: ErrorKind) -> bool {
@@ -201,21 +196,14 @@ fn stops_at_read(alloc: Global, at: usize, kind: ErrorKind) -> bool {
     has_stopped(outcome, ExecFault::Read, 4, &writer) && reader.calls == at && writer.calls == 0
 }
 
-fn stops_at_each_read(alloc: Global) -> bool {
-    for at in 1..SCRIPT.len() + 2 {
-        for kind in KINDS {
-            if !stops_at_read(alloc, at, kind) {
-                return false;
-            }
-        }
-    }
-    true
-}
-
 // Each read fails in turn: nothing is written before all is read.
 #[test]
 fn a_read_fails(rt: HostRuntime) {
-    assert!(rt; stops_at_each_read(rt.alloc()));
+    for at in 1..SCRIPT.len() + 2 {
+        for kind in KINDS {
+            assert!(rt; stops_at_read(rt.alloc(), at, *kind));
+        }
+    }
 }
 
 // Whether this call is the last, and what went before is there.
@@ -230,7 +218,7 @@ fn stops_at_write(alloc: Global, writer: &mut LimitedWriter, at: usize) -> bool 
 // Whether a write that fails stops it, and one that takes nothing.
 fn stops_at_each(alloc: Global, at: usize) -> bool {
     for kind in KINDS {
-        let mut writer = LimitedWriter::new(1, Failing { at, kind }, 0);
+        let mut writer = LimitedWriter::new(1, Failing { at, kind: *kind }, 0);
         if !stops_at_write(alloc, &mut writer, at) {
             return false;
         }
@@ -239,19 +227,12 @@ fn stops_at_each(alloc: Global, at: usize) -> bool {
     stops_at_write(alloc, &mut writer, at)
 }
 
-fn stops_at_each_write(alloc: Global) -> bool {
-    for at in 1..TRANSCRIPT.len() + 1 {
-        if !stops_at_each(alloc, at) {
-            return false;
-        }
-    }
-    true
-}
-
 // Each write fails in turn, or takes no byte, a fault like one that fails: it is the last, and what went before is there.
 #[test]
 fn a_write_fails(rt: HostRuntime) {
-    assert!(rt; stops_at_each_write(rt.alloc()));
+    for at in 1..TRANSCRIPT.len() + 1 {
+        assert!(rt; stops_at_each(rt.alloc(), at));
+    }
 }
 
 fn is_written_or_stopped(alloc: Global) -> bool {
@@ -269,42 +250,10 @@ fn memory_is_refused(rt: HostRuntime) {
     assert!(rt; is_written_or_stopped(rt.alloc()));
 }
 
-fn is_counted(alloc: Global) -> bool {
-    let mut writer = LimitedWriter::new(512, NEVER, 0);
-    reads_of(alloc, SCRIPT, &mut writer) == Some(SCRIPT.len() + 1) && writer.written() == TRANSCRIPT
-}
-
 // A byte a call, and one call more that finds the end.
 #[test]
 fn reads_are_counted(rt: HostRuntime) {
-    assert!(rt; is_counted(rt.alloc()));
-}
-
-// So many line feeds, and what is written of them.
-struct FeedsAnswered(usize, &'static [u8]);
-
-const FEEDS: &[FeedsAnswered] = &[
-    FeedsAnswered(1_048_576, b""),
-    FeedsAnswered(1_048_600, b"refused E91\n"),
-];
-
-fn has_few_reads(alloc: Global, script: &[u8], wanted: &[u8]) -> bool {
-    let mut reader = LimitedReader::new(script, 1, NEVER);
-    let mut writer = LimitedWriter::new(16, NEVER, 0);
-    run(alloc, &mut reader, &mut writer) == Ok(())
-        && writer.written() == wanted
-        && reader.calls <= 1_048_577
-}
-
-impl ScriptCase for FeedsAnswered {
-    fn holds(&self, alloc: Global) -> Result<bool, Fail> {
-        let script = vec![in alloc; b'\n'; self.0]?;
-        Ok(has_few_reads(alloc, &script, self.1))
-    }
-}
-
-// A reader that gives one byte a call is asked at most 1,048,577 times, however long its script is.
-#[test]
-fn reads_are_few(rt: HostRuntime) -> Result<(), Fail> {
-    all_hold(rt.alloc(), "line feeds", FEEDS)
+    let mut writer = LimitedWriter::new(512, NEVER, 0);
+    assert!(rt; reads_of(rt.alloc(), SCRIPT, &mut writer) == Some(SCRIPT.len() + 1));
+    assert!(rt; writer.written() == TRANSCRIPT);
 }
