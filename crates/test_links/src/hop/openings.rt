@@ -151,18 +151,21 @@ fn openings(rt: HostRuntime) {
     }
 }
 
+// Two neighbours, and the links to them.
+const LITTLE: &[(u8, u16)] = &[(0, 0), (2, 1)];
+
 // Whether a refused call left the table as it was, and one that wasn't refused did its work.
 fn with_little_memory(alloc: Global) -> bool {
     let mut circuits = Circuits::new(alloc, CoreId(1));
-    for (core, place) in [(0, 0), (2, 1)] {
-        match circuits.add_link(CoreId(core)) {
+    for (core, place) in LITTLE {
+        match circuits.add_link(CoreId(*core)) {
             Ok(link) => {
-                if link != LinkId(place) {
+                if link != LinkId(*place) {
                     return false;
                 }
             }
             Err(fault) => return fault == HopFault::Memory
-                && circuits.links().len() == usize::from(place),
+                && circuits.links().len() == usize::from(*place),
         }
     }
     match circuits.pass_on(BACK, Circuit(1), ONWARD, 0) {

@@ -8,6 +8,7 @@ use fl_hop::{
 };
 use fl_link::{QueueLink, Sight, Told};
 use fl_ring::{SharedSide, duo};
+use std::alloc::{AllocError, Global};
 use std::test::Fail;
 
 const NEAR: LinkId = LinkId(0);
@@ -84,7 +85,7 @@ fn passes(
     middle: &Circuits,
     last: &Circuits,
     client: &mut SharedSide,
-    sides: &mut [SharedSide; 2],
+    sides: &mut [SharedSide],
     server: &mut SharedSide,
     queue: &mut QueueLink,
 ) -> bool {
@@ -92,7 +93,10 @@ fn passes(
         let is_so = match step {
             RouteStep::Puts(v, circuit) => puts(client, *v, *circuit),
             RouteStep::Forwards(link, answer) => middle.forward(*link, sides) == *answer,
-            RouteStep::Tells(told) => sides[0].tell() == Ok(*told),
+            RouteStep::Tells(told) => match sides.first_mut() {
+                Some(side) => side.tell() == Ok(*told),
+                None => false,
+            },
             RouteStep::Arrives => arrives(last, server, queue),
             RouteStep::LastTells(told) => server.tell() == Ok(*told),
             RouteStep::ComesOut(v) => {
@@ -110,6 +114,14 @@ fn passes(
     true
 }
 
+// In a vector, since how an array of sides is dropped would be proved here.
+fn both(alloc: Global, near: SharedSide, far: SharedSide) -> Result<Vec<SharedSide>, AllocError> {
+    let mut sides = Vec::new(alloc);
+    sides.push(near)?;
+    sides.push(far)?;
+    Ok(sides)
+}
+
 #[test]
 fn routes(rt: HostRuntime) -> Result<(), Fail> {
     let mut middle = Circuits::new(rt.alloc(), CoreId(1));
@@ -122,7 +134,7 @@ fn routes(rt: HostRuntime) -> Result<(), Fail> {
     let (mut client, near) = duo(rt.alloc(), 4)?;
     let (far, mut server) = duo(rt.alloc(), 4)?;
     let mut queue = QueueLink::local(rt.alloc(), 16)?;
-    let mut sides = [near, far];
+    let mut sides = both(rt.alloc(), near, far)?;
     assert!(rt;
         passes(
             &middle,
