@@ -157,6 +157,16 @@ impl JoinedJobs {
         Ok(())
     }
 
+    // Whether an end that is there has reply rules.
+    fn has_rules_at(&self, end: EndId) -> bool
+        requires few { length self.now.bindings.items ≤ 1024 }
+        requires there { end.binding < length self.now.bindings.items }
+        requires end_works { HasEndWork self.now.bindings.items self.now.end_works.items }
+        ensures ruled { result ≡ is_ruled (end_work_at (map end_work_of self.now.end_works.items) end) }
+    {
+        self.end_works[slot_of(end)].has_rules()
+    }
+
     // The fault for which a call is refused.
     fn call_fault(&self, programs: &[Program], end: EndId, call: &Call) -> Option<u8>
         requires few { length self.now.bindings.items ≤ 1024 }
@@ -178,7 +188,7 @@ impl JoinedJobs {
         if !fits(call, interface) {
             return Some(faults::DOES_NOT_FIT);
         }
-        if self.end_works[slot_of(end)].has_rules() {
+        if self.has_rules_at(end) {
             return Some(faults::CALLS_AND_RULES);
         }
         None
