@@ -2,7 +2,7 @@
 //! reading all that it stands on.
 //!
 //! - `rows.rt`: tables, of which a test tells the first row that isn't so
-//! - `program.rt`: scripts and their transcripts, plan tables
+//! - `program.rt`: scripts and their transcripts
 //! - `command.rt`: words, files and standard input in; standard output, standard error and a status out
 //!
 //! `rt try --test --fail-alloc N` runs each with its Nth allocation refused: then `memory_is_refused` of `program.rt`

@@ -1,4 +1,4 @@
-//! What the program is made of, by the public calls of `fl_world`, `fl_script_exec` and `flounder_show`.
+//! What the program is made of, by the public calls of `fl_world` and `fl_script_exec`.
 //!
 //! - `scripts.rt`: scripts with their transcripts, and the test of all tables
 //! - `examples.rt`: the scripts of `examples/`
@@ -9,7 +9,6 @@
 //! - `lines.rt`: lines that ask nothing, and words that are no command
 //! - `limits.rt`: one thing more than a world holds, and the longest script
 //! - `memory.rt`: memory that is refused
-//! - `tables.rt`: plan tables, and refusals of an interface's text
 //!
 //! `rt try --test --fail-alloc N` runs each with its Nth allocation refused: then `memory_is_refused` has to pass, and
 //! others end with out of memory. Readers and writers that give and take little, or fail, are tested in `test_scripts`.
@@ -25,4 +24,3 @@ mod rows;
 mod scripts;
 mod stuck;
 mod stuck_queue;
-mod tables;

@@ -68,6 +68,8 @@ help: the file is an image: give the interface's text, or use show
     ),
 };
 
+const FILES: &[CompileRow] = &[WRITTEN, REFUSED_TEXT, REFUSED_IMAGE];
+
 const OTHER: Option<io::ErrorKind> = Some(io::ErrorKind::Other);
 
 const FULL: Option<io::ErrorKind> = Some(io::ErrorKind::OutOfMemory);
@@ -131,43 +133,15 @@ fn ends_so(alloc: Global, store: &mut TellingStore, row: &CompileRow) -> bool {
     status == row.ends.0 && store.writes == row.ends.1 && is_told(&errors, row.told)
 }
 
-fn is_compiled(alloc: Global, row: &CompileRow) -> bool {
-    let mut store = TellingStore::new(alloc, row.content, row.unread, row.unwritten);
-    ends_so(alloc, &mut store, row)
-}
-
 impl ProgramCase for CompileRow {
     fn holds(&self, alloc: Global) -> Result<bool, Fail> {
-        Ok(is_compiled(alloc, self))
+        let mut store = TellingStore::new(alloc, self.content, self.unread, self.unwritten);
+        Ok(ends_so(alloc, &mut store, self))
     }
 }
 
-fn is_written(alloc: Global) -> bool {
-    let mut store = TellingStore::new(alloc, PING, None, None);
-    ends_so(alloc, &mut store, &WRITTEN) && store.written() == IMAGE
-}
-
-#[test]
-fn an_image_is_written(rt: HostRuntime) {
-    assert!(rt; is_written(rt.alloc()));
-}
-
-#[test]
-fn a_text_that_is_refused_writes_nothing(rt: HostRuntime) {
-    assert!(rt; is_compiled(rt.alloc(), &REFUSED_TEXT));
-}
-
-#[test]
-fn an_image_is_not_compiled(rt: HostRuntime) {
-    assert!(rt; is_compiled(rt.alloc(), &REFUSED_IMAGE));
-}
-
-#[test]
-fn the_first_fault_of_compile_counts(rt: HostRuntime) -> Result<(), Fail> {
-    all_hold(rt.alloc(), "first faults", FIRST_FAULTS)
-}
-
-fn ends_well_or_full(alloc: Global, store: &mut TellingStore) -> bool {
+// Whether the image is written; or, out of memory, nothing.
+fn is_written(alloc: Global, store: &mut TellingStore) -> bool {
     let mut errors = Vec::new(alloc);
     match compile_file(alloc, "in.if", "out", store, &mut errors) {
         0 => store.written() == IMAGE,
@@ -175,13 +149,15 @@ fn ends_well_or_full(alloc: Global, store: &mut TellingStore) -> bool {
     }
 }
 
-fn is_compiled_or_full(alloc: Global) -> bool {
-    let mut store = TellingStore::new(alloc, PING, None, None);
-    ends_well_or_full(alloc, &mut store)
+#[test]
+fn texts_are_compiled(rt: HostRuntime) -> Result<(), Fail> {
+    all_hold(rt.alloc(), "files", FILES)?;
+    all_hold(rt.alloc(), "first faults", FIRST_FAULTS)
 }
 
 // The image, or out of memory and nothing written.
 #[test]
 fn compiled_without_memory(rt: HostRuntime) {
-    assert!(rt; is_compiled_or_full(rt.alloc()));
+    let mut store = TellingStore::new(rt.alloc(), PING, None, None);
+    assert!(rt; is_written(rt.alloc(), &mut store));
 }

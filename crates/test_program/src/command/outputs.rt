@@ -29,29 +29,15 @@ impl FileStore for Shelf {
     }
 }
 
-/// Takes no byte, since nobody reads any more.
+/// Takes so many bytes, and then fails so.
 #[derive(Drop)]
-pub struct Closed;
-
-impl Write for Closed {
-    fn write(&mut self, _buf: &[u8]) -> io::Result<usize> {
-        Err(io::Error::from(io::ErrorKind::BrokenPipe))
-    }
-
-    fn flush(&mut self) -> io::Result<()> {
-        Ok(())
-    }
-}
-
-/// Takes so many bytes, and then fails.
-#[derive(Drop)]
-pub struct Narrow(pub usize);
+pub struct Narrow(pub usize, pub io::ErrorKind);
 
 impl Write for Narrow {
     fn write(&mut self, buf: &[u8]) -> io::Result<usize> {
         let n = buf.len().min(self.0);
         if n == 0 && !buf.is_empty() {
-            return Err(io::Error::from(io::ErrorKind::Other));
+            return Err(io::Error::from(self.1));
         }
         self.0 -= n;
         Ok(n)

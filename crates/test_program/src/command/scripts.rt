@@ -1,10 +1,10 @@
 //! `exec`.
 
-use crate::command::outputs::{Closed, CommandOutput, Narrow};
+use crate::command::outputs::{CommandOutput, Narrow};
 use crate::rows::{ProgramCase, all_hold};
 use fl_world::World;
 use flounder_commands::{Fault, Watched, finish, run_script};
-use std::alloc::{AllocError, Global};
+use std::alloc::Global;
 use std::io;
 use std::io::{BufWriter, Read, Write};
 use std::test::Fail;
@@ -44,15 +44,6 @@ fn exec_with<R: Read + Drop, W: Write + Drop>(
     status
 }
 
-fn exec_into<R: Read + Drop, W: Write + Drop>(
-    alloc: Global,
-    input: R,
-    output: W,
-    errors: &mut Vec<u8>,
-) -> u8 {
-    exec_with(alloc, (false, false), input, output, errors)
-}
-
 fn exec_so<R: Read + Drop>(alloc: Global, options: (bool, bool), input: R) -> CommandOutput {
     let mut out = Vec::new(alloc);
     let mut err = Vec::new(alloc);
@@ -60,23 +51,15 @@ fn exec_so<R: Read + Drop>(alloc: Global, options: (bool, bool), input: R) -> Co
     CommandOutput { status, out, err }
 }
 
-fn exec<R: Read + Drop>(alloc: Global, input: R) -> CommandOutput {
-    exec_so(alloc, (false, false), input)
-}
-
 const SCRIPT: &[u8] = b"disp d 0\ndisp d 0\nnope\n";
 
 const TRANSCRIPT: &[u8] = b"ok\nrefused E92\nrefused E90\n";
 
-// Whether a script has this transcript, and nothing is told of it.
-fn has_transcript(alloc: Global, script: &[u8], transcript: &[u8]) -> bool {
-    exec(alloc, script).is(0, transcript, b"")
-}
-
 // Lines that are refused are no fault.
 #[test]
 fn scripts_are_run(rt: HostRuntime) {
-    assert!(rt; has_transcript(rt.alloc(), SCRIPT, TRANSCRIPT));
+    let ran = exec_so(rt.alloc(), (false, false), SCRIPT);
+    assert!(rt; ran.is(0, TRANSCRIPT, b""));
 }
 
 // A script, its status with `--strict`, and what `--explain` tells.
@@ -128,7 +111,7 @@ impl ProgramCase for ExplainedRow {
     fn holds(&self, alloc: Global) -> Result<bool, Fail> {
         let told = exec_so(alloc, (true, false), self.0);
         let strict = exec_so(alloc, (false, true), self.0);
-        let plain = exec(alloc, self.0);
+        let plain = exec_so(alloc, (false, false), self.0);
         let is_same = told.out == plain.out && strict.out == plain.out;
         let is_told = told.status == 0 && told.err.as_slice() == self.2;
         Ok(is_same && is_told && strict.status == self.1 && strict.err.is_empty())
@@ -141,25 +124,19 @@ fn refused_lines_are_told(rt: HostRuntime) -> Result<(), Fail> {
     all_hold(rt.alloc(), "refused lines", EXPLAINED)
 }
 
-fn is_quiet(alloc: Global) -> bool {
-    let mut err = Vec::new(alloc);
-    exec_into(alloc, SCRIPT, Closed, &mut err) == 4 && err.is_empty()
-}
-
 // Who reads the transcript may stop.
 #[test]
 fn a_closed_pipe_is_quiet(rt: HostRuntime) {
-    assert!(rt; is_quiet(rt.alloc()));
-}
-
-fn is_unread(alloc: Global) -> bool {
-    exec(alloc, NoSource).has_told(4)
+    let mut err = Vec::new(rt.alloc());
+    let closed = Narrow(0, io::ErrorKind::BrokenPipe);
+    let status = exec_with(rt.alloc(), (false, false), SCRIPT, closed, &mut err);
+    assert!(rt; status == 4 && err.is_empty());
 }
 
 // Nothing is printed of a script that isn't read.
 #[test]
 fn scripts_that_are_not_read(rt: HostRuntime) {
-    assert!(rt; is_unread(rt.alloc()));
+    assert!(rt; exec_so(rt.alloc(), (false, false), NoSource).has_told(4));
 }
 
 // Whether standard output that takes so many bytes has a prefix of the transcript after a write that failed.
@@ -169,62 +146,14 @@ fn is_cut_at(alloc: Global, room: usize) -> bool {
     let Some(output) = page.get_mut(..room) else {
         return false;
     };
-    let status = exec_into(alloc, SCRIPT, output, &mut err);
+    let status = exec_with(alloc, (false, false), SCRIPT, output, &mut err);
     status == 4 && !err.is_empty() && TRANSCRIPT.starts_with(&page[..room])
-}
-
-fn is_cut_anywhere(alloc: Global) -> bool {
-    for room in 0..27usize {
-        if !is_cut_at(alloc, room) {
-            return false;
-        }
-    }
-    true
 }
 
 // The buffer is written out at the end, and that may fail as well: then a prefix of the transcript was printed.
 #[test]
 fn scripts_that_are_not_written(rt: HostRuntime) {
-    assert!(rt; is_cut_anywhere(rt.alloc()));
-}
-
-// Many lines of one text.
-fn lines(alloc: Global, line: &[u8]) -> Result<Vec<u8>, AllocError> {
-    let mut text = Vec::new(alloc);
-    for _line in 0..3000u32 {
-        text.extend_from_slice(line)?;
+    for room in 0..27usize {
+        assert!(rt; is_cut_at(rt.alloc(), room));
     }
-    Ok(text)
-}
-
-// Whether it fails where standard output takes so many bytes.
-fn is_lost(alloc: Global, script: &[u8], room: usize) -> bool {
-    let mut err = Vec::new(alloc);
-    exec_into(alloc, script, Narrow(room), &mut err) == 4
-}
-
-// A line that is written many times, and its answer: the transcript is longer than the buffer, which is written out on the way.
-struct Long(&'static [u8], &'static [u8]);
-
-fn is_long(alloc: Global, script: &[u8], row: &Long) -> Result<bool, Fail> {
-    let transcript = lines(alloc, row.1)?;
-    Ok(
-        has_transcript(alloc, script, &transcript)
-            && is_lost(alloc, script, 0)
-            && is_lost(alloc, script, 8_200)
-            && is_lost(alloc, script, 35_999),
-    )
-}
-
-impl ProgramCase for Long {
-    fn holds(&self, alloc: Global) -> Result<bool, Fail> {
-        let script = lines(alloc, self.0)?;
-        is_long(alloc, &script, self)
-    }
-}
-
-#[test]
-fn long_transcripts(rt: HostRuntime) -> Result<(), Fail> {
-    let rows = &[Long(b"nope\n", b"refused E90\n")];
-    all_hold(rt.alloc(), "long transcripts", rows)
 }

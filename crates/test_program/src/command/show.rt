@@ -391,21 +391,6 @@ impl ProgramCase for ShowRow {
     }
 }
 
-#[test]
-fn the_table_of_a_text(rt: HostRuntime) -> Result<(), Fail> {
-    all_hold(rt.alloc(), "tables", TABLE)
-}
-
-#[test]
-fn a_text_that_is_refused(rt: HostRuntime) -> Result<(), Fail> {
-    all_hold(rt.alloc(), "refused texts", TOLD)
-}
-
-#[test]
-fn what_is_wrong_with_a_text(rt: HostRuntime) -> Result<(), Fail> {
-    all_hold(rt.alloc(), "causes", CAUSES)
-}
-
 const NAMED: &[u8] = b"\
 interface i plan 2
 message 0 f_call least 16 greatest 2063 fragments 37
@@ -416,36 +401,28 @@ arg 0 at 0 fixed 4 err
 message 2 none least 0 greatest 0 fragments 1
 ";
 
-fn is_named(alloc: Global) -> bool {
+// The call has the arguments of its direction, and the response the others.
+#[test]
+fn names_of_arguments(rt: HostRuntime) {
     let shelf = Shelf::Holds(
         "x",
         b"interface i { rpc f(in bool on, out uint32 err, in string text); message none(); }",
     );
-    show(alloc, "x", true, shelf).is(0, NAMED, b"")
-}
-
-// The call has the arguments of its direction, and the response the others.
-#[test]
-fn names_of_arguments(rt: HostRuntime) {
-    assert!(rt; is_named(rt.alloc()));
-}
-
-fn is_on_one_line(alloc: Global) -> bool {
-    let file = "a\n\u{1b}b.if";
-    let unread = show(alloc, file, false, Shelf::Fails(io::ErrorKind::NotFound));
-    let err = unread.err.as_slice();
-    unread.status == 4 && err.starts_with(b"a\\n\\u{1b}b.if could not be read")
+    assert!(rt; show(rt.alloc(), "x", true, shelf).is(0, NAMED, b""));
 }
 
 // A name has no line end where it is printed, and moves no cursor.
 #[test]
 fn names_of_files(rt: HostRuntime) {
-    assert!(rt; is_on_one_line(rt.alloc()));
-}
-
-#[test]
-fn a_text_of_no_language(rt: HostRuntime) -> Result<(), Fail> {
-    all_hold(rt.alloc(), "texts of no language", NO_TEXTS)
+    let file = "a\n\u{1b}b.if";
+    let unread = show(
+        rt.alloc(),
+        file,
+        false,
+        Shelf::Fails(io::ErrorKind::NotFound),
+    );
+    assert!(rt; unread.status == 4);
+    assert!(rt; unread.err.starts_with(b"a\\n\\u{1b}b.if could not be read"));
 }
 
 const UNREAD: Shelf = Shelf::Fails(io::ErrorKind::Other);
@@ -468,12 +445,23 @@ const FIRST_FAULTS: &[First] = &[
 impl ProgramCase for First {
     fn holds(&self, alloc: Global) -> Result<bool, Fail> {
         let mut errors = Vec::new(alloc);
-        let status = show_into(alloc, self.0, false, self.1, Narrow(self.2), &mut errors);
+        let status = show_into(
+            alloc,
+            self.0,
+            false,
+            self.1,
+            Narrow(self.2, io::ErrorKind::Other),
+            &mut errors,
+        );
         Ok(status == self.3 && errors.is_empty() == (self.3 == 0))
     }
 }
 
 #[test]
-fn the_first_fault_counts(rt: HostRuntime) -> Result<(), Fail> {
+fn texts_are_shown(rt: HostRuntime) -> Result<(), Fail> {
+    all_hold(rt.alloc(), "tables", TABLE)?;
+    all_hold(rt.alloc(), "refused texts", TOLD)?;
+    all_hold(rt.alloc(), "causes", CAUSES)?;
+    all_hold(rt.alloc(), "texts of no language", NO_TEXTS)?;
     all_hold(rt.alloc(), "first faults", FIRST_FAULTS)
 }

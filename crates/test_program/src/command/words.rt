@@ -106,34 +106,22 @@ const HELPS: &[Words] = &[
     Words(Asked::Help, &["flounder", "header", "--help"]),
 ];
 
-fn are_two_turns(alloc: Global, words: &[&str]) -> bool {
-    let asked = read_words(alloc, words);
-    matches!(
-        &asked,
-        Ok(Request::Cores {
-            file: "x",
-            turns: 2,
-            script: None
-        })
-    )
-}
-
-fn are_exec(alloc: Global, words: &[&str]) -> bool {
-    let asked = read_words(alloc, words);
-    matches!(
-        &asked,
-        Ok(Request::Exec {
-            explain: false,
-            strict: false
-        })
-    )
-}
-
-fn are_options(alloc: Global, words: &[&str]) -> bool {
-    let asked = read_words(alloc, words);
-    match &asked {
-        Ok(Request::Exec { explain, strict }) => *explain && *strict,
-        Ok(Request::Show { file: "x", names }) => *names,
+// Whether words ask for this.
+fn are_asked(alloc: Global, asked: &Asked, words: &[&str]) -> bool {
+    match (read_words(alloc, words), asked) {
+        (
+            Ok(
+                Request::Cores {
+                    file,
+                    turns,
+                    script,
+                },
+            ),
+            Asked::TwoTurns,
+        ) => { file == "x" && turns == 2 && script.is_none() }
+        (Ok(Request::Exec { explain, strict }), Asked::Exec) => !explain && !strict,
+        (Ok(Request::Exec { explain, strict }), Asked::Options) => explain && strict,
+        (Ok(Request::Show { file, names }), Asked::Options) => file == "x" && names,
         _ => false,
     }
 }
@@ -172,34 +160,17 @@ fn are_help(alloc: Global, words: &[&str]) -> bool {
 
 fn are_lost(alloc: Global, words: &[&str]) -> bool {
     let mut err = Vec::new(alloc);
-    tell_into(alloc, words, Narrow(10), &mut err) == 4
+    tell_into(alloc, words, Narrow(10, io::ErrorKind::Other), &mut err) == 4
 }
 
 impl ProgramCase for Words {
     fn holds(&self, alloc: Global) -> Result<bool, Fail> {
-        Ok(match self.0 {
-            Asked::TwoTurns => are_two_turns(alloc, self.1),
-            Asked::Exec => are_exec(alloc, self.1),
-            Asked::Options => are_options(alloc, self.1),
+        Ok(match &self.0 {
             Asked::Nothing => tell(alloc, self.1).has_told(1),
             Asked::Help => are_help(alloc, self.1),
+            asked => are_asked(alloc, asked, self.1),
         })
     }
-}
-
-#[test]
-fn turns_are_told(rt: HostRuntime) -> Result<(), Fail> {
-    all_hold(rt.alloc(), "turns", TWO_TURNS)
-}
-
-#[test]
-fn a_script_is_asked_for(rt: HostRuntime) -> Result<(), Fail> {
-    all_hold(rt.alloc(), "scripts", SCRIPTS)
-}
-
-#[test]
-fn options_are_told(rt: HostRuntime) -> Result<(), Fail> {
-    all_hold(rt.alloc(), "options", OPTIONS)
 }
 
 // Words, and whether a hint tells how a script comes in.
@@ -221,18 +192,13 @@ impl ProgramCase for Hint {
 }
 
 #[test]
-fn how_a_script_comes_in(rt: HostRuntime) -> Result<(), Fail> {
+fn what_words_ask(rt: HostRuntime) -> Result<(), Fail> {
+    all_hold(rt.alloc(), "turns", TWO_TURNS)?;
+    all_hold(rt.alloc(), "scripts", SCRIPTS)?;
+    all_hold(rt.alloc(), "options", OPTIONS)?;
+    all_hold(rt.alloc(), "no commands", NO_COMMANDS)?;
+    all_hold(rt.alloc(), "help", HELPS)?;
     all_hold(rt.alloc(), "hints", HINTS)
-}
-
-#[test]
-fn words_that_are_no_command(rt: HostRuntime) -> Result<(), Fail> {
-    all_hold(rt.alloc(), "no commands", NO_COMMANDS)
-}
-
-#[test]
-fn help_is_written(rt: HostRuntime) -> Result<(), Fail> {
-    all_hold(rt.alloc(), "help", HELPS)
 }
 
 // The status where the words can't be had, if that is told.
@@ -245,12 +211,8 @@ fn without_words(alloc: Global, kind: io::ErrorKind) -> Option<u8> {
     Some(status)
 }
 
-fn are_told(alloc: Global) -> bool {
-    without_words(alloc, io::ErrorKind::InvalidData) == Some(1)
-        && without_words(alloc, io::ErrorKind::OutOfMemory) == Some(3)
-}
-
 #[test]
 fn words_that_are_not_there(rt: HostRuntime) {
-    assert!(rt; are_told(rt.alloc()));
+    assert!(rt; without_words(rt.alloc(), io::ErrorKind::InvalidData) == Some(1));
+    assert!(rt; without_words(rt.alloc(), io::ErrorKind::OutOfMemory) == Some(3));
 }

@@ -149,31 +149,19 @@ fn digit(number: u32) -> u8 {
     b'0' + (number % 10) as u8
 }
 
-// A number of four digits.
-fn digits(number: u32) -> [u8; 4] {
-    [
-        digit(number / 1000),
-        digit(number / 100),
-        digit(number / 10),
-        digit(number),
-    ]
-}
-
-// A line with its number in the place of `@`.
+// Appends a line with its number, in four digits, in the place of `@`.
 fn push_line(text: &mut Vec<u8>, line: &[u8], number: u32) -> Result<(), AllocError> {
     for byte in line {
         if *byte == b'@' {
-            text.extend_from_slice(&digits(number))?;
+            text.extend_from_slice(&[
+                digit(number / 1000),
+                digit(number / 100),
+                digit(number / 10),
+                digit(number),
+            ])?;
         } else {
             text.push(*byte)?;
         }
-    }
-    Ok(())
-}
-
-fn push_lines(text: &mut Vec<u8>, line: &[u8], times: u32) -> Result<(), AllocError> {
-    for number in 0..times {
-        push_line(text, line, number)?;
     }
     Ok(())
 }
@@ -187,34 +175,24 @@ fn text_of(
     last: &[u8],
 ) -> Result<Vec<u8>, AllocError> {
     let mut text = Vec::from_slice(alloc, first)?;
-    push_lines(&mut text, lines, times)?;
+    for number in 0..times {
+        push_line(&mut text, lines, number)?;
+    }
     text.extend_from_slice(last)?;
     Ok(text)
 }
 
-// Whether a script has its limit's transcript.
-fn is_limit(alloc: Global, limit: &Limit, script: &[u8]) -> Result<bool, Fail> {
-    let wanted = text_of(
-        alloc,
-        limit.first.1,
-        limit.times,
-        limit.lines.1,
-        limit.last.1,
-    )?;
-    Ok(is_transcript(alloc, script, &wanted)?)
-}
-
-// Whether a script that begins with an interface has its limit's transcript under plan 1 too.
-fn is_limit_under_plan_one(alloc: Global, limit: &Limit, script: &[u8]) -> Result<bool, Fail> {
-    match script.strip_prefix(b"idl\n") {
-        Some(rest) => is_limit(alloc, limit, &join(alloc, b"idl 1\n", rest)?),
-        None => Ok(true),
-    }
-}
-
+// A script that begins with an interface has its transcript under plan 1 too.
 impl ProgramCase for Limit {
     fn holds(&self, alloc: Global) -> Result<bool, Fail> {
         let script = text_of(alloc, self.first.0, self.times, self.lines.0, self.last.0)?;
-        Ok(is_limit(alloc, self, &script)? && is_limit_under_plan_one(alloc, self, &script)?)
+        let wanted = text_of(alloc, self.first.1, self.times, self.lines.1, self.last.1)?;
+        if !is_transcript(alloc, &script, &wanted)? {
+            return Ok(false);
+        }
+        match script.strip_prefix(b"idl\n") {
+            Some(rest) => Ok(is_transcript(alloc, &join(alloc, b"idl 1\n", rest)?, &wanted)?),
+            None => Ok(true),
+        }
     }
 }

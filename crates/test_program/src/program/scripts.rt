@@ -1,8 +1,6 @@
 //! Scripts with their transcripts, and the test of all tables.
 
-use crate::program::{
-    core_rows, examples, letters, limits, lines, rows, stuck, stuck_queue, tables,
-};
+use crate::program::{core_rows, examples, letters, limits, lines, rows, stuck, stuck_queue};
 use crate::rows::{ProgramCase, all_hold};
 use fl_script_exec::{ExecFault, exec};
 use fl_world::World;
@@ -64,7 +62,5 @@ fn scripts(rt: HostRuntime) -> Result<(), Fail> {
     all_hold(rt.alloc(), "examples of rings", examples::RINGS)?;
     all_hold(rt.alloc(), "a ring that sticks", stuck::RING)?;
     all_hold(rt.alloc(), "queues that stick", stuck_queue::QUEUE)?;
-    all_hold(rt.alloc(), "limits", limits::LIMITS)?;
-    all_hold(rt.alloc(), "texts under plan one", tables::UNDER_PLAN_ONE)?;
-    all_hold(rt.alloc(), "texts", tables::TEXTS)
+    all_hold(rt.alloc(), "limits", limits::LIMITS)
 }
