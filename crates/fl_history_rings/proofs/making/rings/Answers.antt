@@ -1,0 +1,10 @@
+use Rattle.std.proofs.Common.{rules, ◌≡◌, ◌+◌, ◌*◌, length, replicate, ap, ◌∙◌, arith, ℕ}
+use Rattle.fl_history_rings.proofs.Makes.{rings_open}
+use Rattle.fl_history_rings.proofs.making.rings.Goals as goal
+
+pub of_words-requires : goal.of_words-requires
+of_words-requires c =
+    let many : c.len.result ≡ length c.args.wires.items = omega (arith, c.len.ensures, c.args.wires.ok.0) in
+    let blank : c.in-Ok.words.items ≡ replicate c.in-Some.count 0 = search rules in
+    rings_open c.args.slots c.args.wires.items c.args.cores c.as_slice.result.now c.requires.slots
+    (c.as_slice.ensures.value ∙ blank ∙ ap (λ (n : ℕ). replicate n 0) (c.in-Some.ensures ∙ ap (λ (n : ℕ). n * c.args.slots + 1) many))

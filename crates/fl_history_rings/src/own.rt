@@ -1,0 +1,79 @@
+//! A core's steps, with its seat and its places.
+
+ghost use Rattle.std.specs.Prelude.{◌≡◌, ◌≢◌, ◌+◌, ◌%◌, ◌<◌, ℕ, true, false, MatchBool, MatchOption};
+ghost use Rattle.fl_history_rings.specs.Cores.{IsOwn, Writes, Reads, core_shown, noting};
+ghost use Rattle.fl_history_rings.specs.declared.board.Deed.TheVariants.{Put, Full, Found, Missed, Freed};
+
+use crate::board::{Own, RingsShared, Wire};
+use crate::steps::{put_letter, take_letter};
+
+// Whether this core puts letters into that ring.
+pub(crate) fn is_writer(wires: &[Wire], ring: usize, core: usize) -> bool
+    ensures yes { result ≡ true → Writes wires.now ring core }
+    ensures no { result ≡ false → ¬ (Writes wires.now ring core) }
+{
+    let Some(wire) = wires.get(ring) else {
+        return false;
+    };
+    wire.writer == core
+}
+
+// Whether this core takes letters from that ring.
+pub(crate) fn is_reader(wires: &[Wire], ring: usize, core: usize) -> bool
+    ensures yes { result ≡ true → Reads wires.now ring core }
+    ensures no { result ≡ false → ¬ (Reads wires.now ring core) }
+{
+    let Some(wire) = wires.get(ring) else {
+        return false;
+    };
+    wire.reader == core
+}
+
+// The place behind this one, of so many that go round.
+fn place_after(place: usize, slots: usize) -> usize
+    requires within { place < slots }
+    ensures next { (i : ℕ) → place ≡ i % slots → result ≡ (i + 1) % slots }
+{
+    let next = place + 1;
+    if next == slots {
+        return 0;
+    }
+    next
+}
+
+impl Own {
+    // Puts a letter into the ring, and says whether there was room.
+    pub(crate) fn put(&mut self, top: &RingsShared, slots: usize, ring: usize, letter: u64) -> bool
+        requires own { IsOwn top.now.table_id top.now.key self.old }
+        requires slots { slots ≡ top.now.key.slots }
+        requires mine { Writes top.now.key.wires.items ring self.old.number }
+        requires letter { letter ≢ 0 }
+        ensures own { IsOwn top.now.table_id top.now.key self.new }
+        ensures noted { MatchBool result (core_shown self.new.seat ≡ noting (core_shown self.old.seat) ring (Put letter))
+            (core_shown self.new.seat ≡ noting (core_shown self.old.seat) ring Full) }
+    {
+        let place = self.puts[ring];
+        if !put_letter(top, &mut self.seat, slots, ring, place, letter) {
+            return false;
+        }
+        self.puts[ring] = place_after(place, slots);
+        true
+    }
+
+    // Takes the letter that stands first in the ring, if there is one.
+    pub(crate) fn take(&mut self, top: &RingsShared, slots: usize, ring: usize) -> Option<u64>
+        requires own { IsOwn top.now.table_id top.now.key self.old }
+        requires slots { slots ≡ top.now.key.slots }
+        requires mine { Reads top.now.key.wires.items ring self.old.number }
+        ensures own { IsOwn top.now.table_id top.now.key self.new }
+        ensures noted { MatchOption result (core_shown self.new.seat ≡ noting (core_shown self.old.seat) ring Missed)
+            (λ letter. core_shown self.new.seat ≡ noting (noting (core_shown self.old.seat) ring (Found letter)) ring Freed) }
+    {
+        let place = self.takes[ring];
+        let Some(found) = take_letter(top, &mut self.seat, slots, ring, place) else {
+            return None;
+        };
+        self.takes[ring] = place_after(place, slots);
+        Some(found)
+    }
+}
