@@ -6,11 +6,11 @@ use mathlib.Core.Logic.{dite}
 use mathlib.Core.Option.{some, some-injective, some-ne-none}
 use native.Mathlib.Decide.{ℕ_discrete}
 use lib.ListN.{get_elem?}
-use Rattle.fl_history_rings.specs.declared.board.Deed.{Deed}
-use Rattle.fl_history_rings.specs.declared.board.Deed.TheVariants.{Put, Full, Found, Missed, Freed}
+use Rattle.fl_history_rings.specs.declared.board.Action.{Action}
+use Rattle.fl_history_rings.specs.declared.board.Action.TheVariants.{Put, Full, Found, Missed, Freed}
 use Rattle.fl_history_rings.specs.declared.board.Entry.{Entry}
-use Rattle.fl_history_rings.specs.declared.board.Wire.{Wire}
-use Rattle.fl_history_rings.specs.Rings.{Runs, steps_of, who_does, IsWired}
+use Rattle.fl_history_rings.specs.declared.board.RingEnds.{RingEnds}
+use Rattle.fl_history_rings.specs.Rings.{Runs, steps_of, who_does, IsByItsCore}
 use Rattle.fl_history_rings.specs.Rule.{tally, one_put, one_found, one_freed, puts_at, finds_at, frees_at}
 
 -- ---- lists
@@ -73,54 +73,54 @@ else_is true x y is = absurd (false≢true (sym is))
 else_is false x y is = refl
 
 -- what a step adds
-abbrev adds : (Deed → ℕ) → ℕ → Entry → ℕ
-adds f k e = if e.ring == k then f e.deed else 0
+abbrev adds : (Action → ℕ) → ℕ → Entry → ℕ
+adds f k e = if e.ring == k then f e.action else 0
 
 sum_more : (a b c d : ℕ) → d ≡ b + c → a + d ≡ (a + b) + c
 sum_more a b c d e = omega (arith, e)
 
-tally_more : (f : Deed → ℕ) (k : ℕ) (es : List Entry) (e : Entry) → tally f k (es ++ e ∷ []) ≡ tally f k es + adds f k e
+tally_more : (f : Action → ℕ) (k : ℕ) (es : List Entry) (e : Entry) → tally f k (es ++ e ∷ []) ≡ tally f k es + adds f k e
 tally_more f k [] e = let x : ℕ = adds f k e in let h : x + 0 ≡ 0 + x = omega arith in h
 tally_more f k (x ∷ es) e = sum_more (adds f k x) (tally f k es) (adds f k e) (tally f k (es ++ e ∷ [])) (tally_more f k es e)
 
-pub tally_here : (f : Deed → ℕ) (k : ℕ) (es : List Entry) (e : Entry) → e.ring ≡ k → tally f k (es ++ e ∷ []) ≡ tally f k es + f e.deed
-tally_here f k es e is = tally_more f k es e ∙ ap (λ (x : ℕ). tally f k es + x) (then_is (e.ring == k) (f e.deed) 0 (eq-eqb e.ring k is))
+pub tally_here : (f : Action → ℕ) (k : ℕ) (es : List Entry) (e : Entry) → e.ring ≡ k → tally f k (es ++ e ∷ []) ≡ tally f k es + f e.action
+tally_here f k es e is = tally_more f k es e ∙ ap (λ (x : ℕ). tally f k es + x) (then_is (e.ring == k) (f e.action) 0 (eq-eqb e.ring k is))
 
-pub tally_else : (f : Deed → ℕ) (k : ℕ) (es : List Entry) (e : Entry) → e.ring ≢ k → tally f k (es ++ e ∷ []) ≡ tally f k es
+pub tally_else : (f : Action → ℕ) (k : ℕ) (es : List Entry) (e : Entry) → e.ring ≢ k → tally f k (es ++ e ∷ []) ≡ tally f k es
 tally_else f k es e ne =
     let t : ℕ = tally f k es in
     let h : t + 0 ≡ t = omega arith in
-    tally_more f k es e ∙ (ap (λ (x : ℕ). t + x) (else_is (e.ring == k) (f e.deed) 0 (ne_eqb e.ring k ne)) ∙ h)
+    tally_more f k es e ∙ (ap (λ (x : ℕ). t + x) (else_is (e.ring == k) (f e.action) 0 (ne_eqb e.ring k ne)) ∙ h)
 
-pub tally_grows : (f : Deed → ℕ) (k : ℕ) (es : List Entry) (e : Entry) → tally f k es ≤ tally f k (es ++ e ∷ [])
+pub tally_grows : (f : Action → ℕ) (k : ℕ) (es : List Entry) (e : Entry) → tally f k es ≤ tally f k (es ++ e ∷ [])
 tally_grows f k es e = let a : ℕ = adds f k e in let t : ℕ = tally f k es in let h : tally f k (es ++ e ∷ []) ≡ t + a = tally_more f k es e in subst (λ (x : ℕ). t ≤ x) (sym h) (omega arith)
 
 -- where all that counts is one core's, its own steps count the same
-abbrev AllBy : (Deed → ℕ) → ℕ → ℕ → List Entry → Type 0
-AllBy f k n es = (i : ℕ) (e : Entry) → get_elem? es i ≡ some e → e.ring ≡ k → (f e.deed ≡ 0) ⊎ (e.core ≡ n)
+abbrev AllBy : (Action → ℕ) → ℕ → ℕ → List Entry → Type 0
+AllBy f k n es = (i : ℕ) (e : Entry) → get_elem? es i ≡ some e → e.ring ≡ k → (f e.action ≡ 0) ⊎ (e.core ≡ n)
 
-steps_mine : (n : ℕ) (e : Entry) (es : List Entry) (b : Bool) → b ≡ true → (f : Deed → ℕ) (k : ℕ) → tally f k (if b then e ∷ es else es) ≡ adds f k e + tally f k es
+steps_mine : (n : ℕ) (e : Entry) (es : List Entry) (b : Bool) → b ≡ true → (f : Action → ℕ) (k : ℕ) → tally f k (if b then e ∷ es else es) ≡ adds f k e + tally f k es
 steps_mine n e es true is f k = refl
 steps_mine n e es false is f k = absurd (false≢true is)
 
-steps_theirs : (n : ℕ) (e : Entry) (es : List Entry) (b : Bool) → b ≡ false → (f : Deed → ℕ) (k : ℕ) → adds f k e ≡ 0 → tally f k (if b then e ∷ es else es) ≡ adds f k e + tally f k es
+steps_theirs : (n : ℕ) (e : Entry) (es : List Entry) (b : Bool) → b ≡ false → (f : Action → ℕ) (k : ℕ) → adds f k e ≡ 0 → tally f k (if b then e ∷ es else es) ≡ adds f k e + tally f k es
 steps_theirs n e es true is f k none = absurd (false≢true (sym is))
 steps_theirs n e es false is f k none =
     let t : ℕ = tally f k es in
     let z : t ≡ 0 + t = omega arith in
     z ∙ ap (λ (x : ℕ). x + t) (sym none)
 
-adds_none : (f : Deed → ℕ) (k n : ℕ) (e : Entry) → e.core ≢ n → (e.ring ≡ k → (f e.deed ≡ 0) ⊎ (e.core ≡ n)) → adds f k e ≡ 0
+adds_none : (f : Action → ℕ) (k n : ℕ) (e : Entry) → e.core ≢ n → (e.ring ≡ k → (f e.action ≡ 0) ⊎ (e.core ≡ n)) → adds f k e ≡ 0
 adds_none f k n e ne by =
     dite (ℕ_discrete e.ring k)
-    (λ is. then_is (e.ring == k) (f e.deed) 0 (eq-eqb e.ring k is) ∙ none (by is))
-    (λ other. else_is (e.ring == k) (f e.deed) 0 (ne_eqb e.ring k other))
+    (λ is. then_is (e.ring == k) (f e.action) 0 (eq-eqb e.ring k is) ∙ none (by is))
+    (λ other. else_is (e.ring == k) (f e.action) 0 (ne_eqb e.ring k other))
   where
-    none : (f e.deed ≡ 0) ⊎ (e.core ≡ n) → f e.deed ≡ 0
+    none : (f e.action ≡ 0) ⊎ (e.core ≡ n) → f e.action ≡ 0
     none (inl is) = is
     none (inr is) = absurd (ne is)
 
-pub tally_own : (f : Deed → ℕ) (k n : ℕ) (es : List Entry) → AllBy f k n es → tally f k (steps_of n es) ≡ tally f k es
+pub tally_own : (f : Action → ℕ) (k n : ℕ) (es : List Entry) → AllBy f k n es → tally f k (steps_of n es) ≡ tally f k es
 tally_own f k n [] by = refl
 tally_own f k n (e ∷ es) by =
     let rest : tally f k (steps_of n es) ≡ tally f k es = tally_own f k n es (λ i d at. by (suc i) d at) in
@@ -130,45 +130,45 @@ tally_own f k n (e ∷ es) by =
 
 -- ---- who may
 
-pub puts_by : (w : Wire) (d : Deed) → (one_put d ≡ 0) ⊎ (who_does w d ≡ w.writer)
+pub puts_by : (w : RingEnds) (d : Action) → (one_put d ≡ 0) ⊎ (who_does w d ≡ w.writer)
 puts_by w (Put letter) = inr refl
 puts_by w Full = inl refl
 puts_by w (Found letter) = inl refl
 puts_by w Missed = inl refl
 puts_by w Freed = inl refl
 
-pub finds_by : (w : Wire) (d : Deed) → (one_found d ≡ 0) ⊎ (who_does w d ≡ w.reader)
+pub finds_by : (w : RingEnds) (d : Action) → (one_found d ≡ 0) ⊎ (who_does w d ≡ w.reader)
 finds_by w (Put letter) = inl refl
 finds_by w Full = inl refl
 finds_by w (Found letter) = inr refl
 finds_by w Missed = inl refl
 finds_by w Freed = inl refl
 
-pub frees_by : (w : Wire) (d : Deed) → (one_freed d ≡ 0) ⊎ (who_does w d ≡ w.reader)
+pub frees_by : (w : RingEnds) (d : Action) → (one_freed d ≡ 0) ⊎ (who_does w d ≡ w.reader)
 frees_by w (Put letter) = inl refl
 frees_by w Full = inl refl
 frees_by w (Found letter) = inl refl
 frees_by w Missed = inl refl
 frees_by w Freed = inr refl
 
-module _ (wires : List Wire) (k : ℕ) (w : Wire) (at : get_elem? wires k ≡ some w) where
-  -- the wire of a step at this ring
-  wire_of : (e : Entry) → IsWired wires e → e.ring ≡ k → e.core ≡ who_does w e.deed
-  wire_of e (u, there_is, by) here =
-      let same : u ≡ w = same_there wires k u w (subst (λ (j : ℕ). get_elem? wires j ≡ some u) here there_is) at in
-      subst (λ (z : Wire). e.core ≡ who_does z e.deed) same by
+module _ (ends : List RingEnds) (k : ℕ) (w : RingEnds) (at : get_elem? ends k ≡ some w) where
+  -- a step at this ring is its one core's that may
+  by_of : (e : Entry) → IsByItsCore ends e → e.ring ≡ k → e.core ≡ who_does w e.action
+  by_of e (u, there_is, by) here =
+      let same : u ≡ w = same_there ends k u w (subst (λ (j : ℕ). get_elem? ends j ≡ some u) here there_is) at in
+      subst (λ (z : RingEnds). e.core ≡ who_does z e.action) same by
 
-  pub by_core : (f : Deed → ℕ) (n : ℕ) (e : Entry) → ((f e.deed ≡ 0) ⊎ (who_does w e.deed ≡ n)) → IsWired wires e → e.ring ≡ k → (f e.deed ≡ 0) ⊎ (e.core ≡ n)
-  by_core f n e (inl none) wired here = inl none
-  by_core f n e (inr is) wired here = inr (wire_of e wired here ∙ is)
+  pub by_core : (f : Action → ℕ) (n : ℕ) (e : Entry) → ((f e.action ≡ 0) ⊎ (who_does w e.action ≡ n)) → IsByItsCore ends e → e.ring ≡ k → (f e.action ≡ 0) ⊎ (e.core ≡ n)
+  by_core f n e (inl none) by_its_core here = inl none
+  by_core f n e (inr is) by_its_core here = inr (by_of e by_its_core here ∙ is)
 
   -- a core's own steps count what it alone may do
-  module _ (log : List Entry) (wired : (i : ℕ) (e : Entry) → get_elem? log i ≡ some e → IsWired wires e) where
+  module _ (log : List Entry) (by_its_core : (i : ℕ) (e : Entry) → get_elem? log i ≡ some e → IsByItsCore ends e) where
     pub own_puts : puts_at k (steps_of w.writer log) ≡ puts_at k log
-    own_puts = tally_own one_put k w.writer log (λ i e is here. by_core one_put w.writer e (puts_by w e.deed) (wired i e is) here)
+    own_puts = tally_own one_put k w.writer log (λ i e is here. by_core one_put w.writer e (puts_by w e.action) (by_its_core i e is) here)
 
     pub own_finds : finds_at k (steps_of w.reader log) ≡ finds_at k log
-    own_finds = tally_own one_found k w.reader log (λ i e is here. by_core one_found w.reader e (finds_by w e.deed) (wired i e is) here)
+    own_finds = tally_own one_found k w.reader log (λ i e is here. by_core one_found w.reader e (finds_by w e.action) (by_its_core i e is) here)
 
     pub own_frees : frees_at k (steps_of w.reader log) ≡ frees_at k log
-    own_frees = tally_own one_freed k w.reader log (λ i e is here. by_core one_freed w.reader e (frees_by w e.deed) (wired i e is) here)
+    own_frees = tally_own one_freed k w.reader log (λ i e is here. by_core one_freed w.reader e (frees_by w e.action) (by_its_core i e is) here)

@@ -7,14 +7,14 @@ use native.Mathlib.Decide.{ℕ_discrete}
 use lib.ListN.{get_elem?}
 use lib.Seq.{set-get_or}
 use Rattle.atomic_table.proofs.Lists.{at_set, at_snoc, set_here, set_else}
-use Rattle.fl_history_rings.specs.declared.board.Deed.{Deed}
+use Rattle.fl_history_rings.specs.declared.board.Action.{Action}
 use Rattle.fl_history_rings.specs.declared.board.Entry.{Entry}
-use Rattle.fl_history_rings.specs.declared.board.Wire.{Wire}
+use Rattle.fl_history_rings.specs.declared.board.RingEnds.{RingEnds}
 use Rattle.fl_history_rings.specs.declared.board.Insight.TheVariants.{Nothing, Room}
 use Rattle.fl_history_rings.specs.declared.board.CoreView.{CoreView}
 use Rattle.fl_history_rings.specs.declared.board.SeatView.{SeatView}
-use Rattle.fl_history_rings.specs.Rings.{Ring, Does, Goes, all_empty, entry, IsWired}
-use Rattle.fl_history_rings.specs.Rule.{one_put, one_found, one_freed, puts_at, finds_at, frees_at, Stands, Knows, Holds, Account, Fits, knowing, with_deed, one_core}
+use Rattle.fl_history_rings.specs.Rings.{Ring, Does, Goes, all_empty, entry, IsByItsCore}
+use Rattle.fl_history_rings.specs.Rule.{one_put, one_found, one_freed, puts_at, finds_at, frees_at, counts, counts_at, Stands, Knows, Holds, Account, Fits, knowing, with_action, one_core}
 use Rattle.fl_history_rings.proofs.Logs.{within, steps_more, steps_same, runs_more, tally_here, tally_else, tally_grows, puts_by, by_core}
 use Rattle.fl_history_rings.proofs.Slots.{other_ring, stands_still}
 
@@ -28,17 +28,17 @@ room_same k j e = cc
 
 -- ---- counts
 
-counted : (n : ℕ) (ws : List ℕ) (b s g f s' g' f' : ℕ) (r : Ring) → s' ≡ s → g' ≡ g → f' ≡ f → Stands n ws b s g f r → Stands n ws b s' g' f' r
+counted : (n : ℕ) (ws : List ℕ) (b s g f s' g' f' : ℕ) (r : Ring) → s' ≡ s → g' ≡ g → f' ≡ f → Stands n ws b (counts s g f) r → Stands n ws b (counts s' g' f') r
 counted n ws b s g f s' g' f' r es eg ef h =
-    subst (λ (x : ℕ). Stands n ws b x g' f' r) (sym es)
-    (subst (λ (x : ℕ). Stands n ws b s x f' r) (sym eg)
-    (subst (λ (x : ℕ). Stands n ws b s g x r) (sym ef) h))
+    subst (λ (x : ℕ). Stands n ws b (counts x g' f') r) (sym es)
+    (subst (λ (x : ℕ). Stands n ws b (counts s x f') r) (sym eg)
+    (subst (λ (x : ℕ). Stands n ws b (counts s g x) r) (sym ef) h))
 
 -- ---- a step that is noted
 
-module _ (n : ℕ) (wires : List Wire) (ws : List ℕ) (cores : List CoreView) (held : Holds n wires ws cores) (h : CoreView) (at : get_elem? cores h.core ≡ some h) where
-  module _ (k : ℕ) (d : Deed) (wired : IsWired wires (entry h.core k d)) (r left : Ring) (stood : get_elem? held.rings k ≡ some r) (does : Does n r d left) (p x s g f : ℕ)
-      (es : s ≡ puts_at k held.log + one_put d) (eg : g ≡ finds_at k held.log + one_found d) (ef : f ≡ frees_at k held.log + one_freed d) (stands : Stands n (set ws (k * n + p % n) x) (k * n) s g f left) where
+module _ (n : ℕ) (ends : List RingEnds) (ws : List ℕ) (cores : List CoreView) (held : Holds n ends ws cores) (h : CoreView) (at : get_elem? cores h.core ≡ some h) where
+  module _ (k : ℕ) (d : Action) (by_its_core : IsByItsCore ends (entry h.core k d)) (r left : Ring) (stood : get_elem? held.rings k ≡ some r) (does : Does n r d left) (p x s g f : ℕ)
+      (es : s ≡ puts_at k held.log + one_put d) (eg : g ≡ finds_at k held.log + one_found d) (ef : f ≡ frees_at k held.log + one_freed d) (stands : Stands n (set ws (k * n + p % n) x) (k * n) (counts s g f) left) where
     abbrev the_step : Entry
     the_step = entry h.core k d
 
@@ -48,17 +48,17 @@ module _ (n : ℕ) (wires : List Wire) (ws : List ℕ) (cores : List CoreView) (
     abbrev words_after : List ℕ
     words_after = set ws (k * n + p % n) x
 
-    log_wired : (i : ℕ) (e : Entry) → (get_elem? held.log i ≡ some e) ⊎ (the_step ≡ e) → IsWired wires e
-    log_wired i e (inl old) = held.wired i e old
-    log_wired i e (inr new) = subst (λ (y : Entry). IsWired wires y) new wired
+    log_by : (i : ℕ) (e : Entry) → (get_elem? held.log i ≡ some e) ⊎ (the_step ≡ e) → IsByItsCore ends e
+    log_by i e (inl old) = held.by_its_core i e old
+    log_by i e (inr new) = subst (λ (y : Entry). IsByItsCore ends y) new by_its_core
 
-    stands_here : Stands n words_after (k * n) (puts_at k log_after) (finds_at k log_after) (frees_at k log_after) left
+    stands_here : Stands n words_after (k * n) (counts_at k log_after) left
     stands_here =
         counted n words_after (k * n) s g f (puts_at k log_after) (finds_at k log_after) (frees_at k log_after) left
         (tally_here one_put k held.log the_step refl ∙ sym es) (tally_here one_found k held.log the_step refl ∙ sym eg) (tally_here one_freed k held.log the_step refl ∙ sym ef) stands
 
-    stands_there : (j : ℕ) (m : Ring) → j ≢ k → Stands n ws (j * n) (puts_at j held.log) (finds_at j held.log) (frees_at j held.log) m
-        → Stands n words_after (j * n) (puts_at j log_after) (finds_at j log_after) (frees_at j log_after) m
+    stands_there : (j : ℕ) (m : Ring) → j ≢ k → Stands n ws (j * n) (counts_at j held.log) m
+        → Stands n words_after (j * n) (counts_at j log_after) m
     stands_there j m ne old =
         let away : k ≢ j = λ e. ne (sym e) in
         counted n words_after (j * n) (puts_at j held.log) (finds_at j held.log) (frees_at j held.log) (puts_at j log_after) (finds_at j log_after) (frees_at j log_after) m
@@ -66,84 +66,84 @@ module _ (n : ℕ) (wires : List Wire) (ws : List ℕ) (cores : List CoreView) (
         (stands_still n ws words_after (j * n) (puts_at j held.log) (finds_at j held.log) (frees_at j held.log) m held.some_slots
         (λ y low. get_or-set_other ws (k * n + p % n) (j * n + y) x 0 (other_ring n k j (p % n) y away (mod_below p n held.some_slots) low)) old)
 
-    stands_after : (j : ℕ) (m : Ring) → ((j ≡ k) × (left ≡ m)) ⊎ ((j ≢ k) × (get_elem? held.rings j ≡ some m)) → Stands n words_after (j * n) (puts_at j log_after) (finds_at j log_after) (frees_at j log_after) m
+    stands_after : (j : ℕ) (m : Ring) → ((j ≡ k) × (left ≡ m)) ⊎ ((j ≢ k) × (get_elem? held.rings j ≡ some m)) → Stands n words_after (j * n) (counts_at j log_after) m
     stands_after j m (inl (here, is)) =
-        subst (λ (i : ℕ). Stands n words_after (i * n) (puts_at i log_after) (finds_at i log_after) (frees_at i log_after) m) (sym here)
-        (subst (λ (y : Ring). Stands n words_after (k * n) (puts_at k log_after) (finds_at k log_after) (frees_at k log_after) y) is stands_here)
+        subst (λ (i : ℕ). Stands n words_after (i * n) (counts_at i log_after) m) (sym here)
+        (subst (λ (y : Ring). Stands n words_after (k * n) (counts_at k log_after) y) is stands_here)
     stands_after j m (inr (ne, was)) = stands_there j m ne (held.stands j m was)
 
     -- another core's ring gets no letter by this
-    puts_same : (j : ℕ) (w : Wire) → get_elem? wires j ≡ some w → h.core ≢ w.writer → puts_at j log_after ≡ puts_at j held.log
+    puts_same : (j : ℕ) (w : RingEnds) → get_elem? ends j ≡ some w → h.core ≢ w.writer → puts_at j log_after ≡ puts_at j held.log
     puts_same j w is ne =
         dite (ℕ_discrete k j)
-        (λ here. let t = tally_here one_put j held.log the_step here in let z : one_put d ≡ 0 = none (by_core wires j w is one_put w.writer the_step (puts_by w d) wired here) in omega (arith, t, z))
+        (λ here. let t = tally_here one_put j held.log the_step here in let z : one_put d ≡ 0 = none (by_core ends j w is one_put w.writer the_step (puts_by w d) by_its_core here) in omega (arith, t, z))
         (λ away. tally_else one_put j held.log the_step away)
       where
         none : (one_put d ≡ 0) ⊎ (h.core ≡ w.writer) → one_put d ≡ 0
         none (inl z) = z
         none (inr same) = absurd (ne same)
 
-    room_still : (c : ℕ) (v : CoreView) → c ≢ h.core → Knows n wires held.log c v → (j : ℕ) → v.knows ≡ Room j
-        → (w : Wire) × (get_elem? wires j ≡ some w) × (w.writer ≡ c) × (puts_at j log_after < frees_at j log_after + n)
+    room_still : (c : ℕ) (v : CoreView) → c ≢ h.core → Knows n ends held.log c v → (j : ℕ) → v.knows ≡ Room j
+        → (w : RingEnds) × (get_elem? ends j ≡ some w) × (w.writer ≡ c) × (puts_at j log_after < frees_at j log_after + n)
     room_still c v ne old j is =
         let (w, there_is, writes, room) = old.of_room j is in
         let same : puts_at j log_after ≡ puts_at j held.log = puts_same j w there_is (λ e. ne (sym writes ∙ sym e)) in
         let grows : frees_at j held.log ≤ frees_at j log_after = tally_grows one_freed j held.log the_step in
         (w, there_is, writes, omega (arith, same, grows, room))
 
-    mine : Knows n wires log_after h.core (with_deed h k d)
+    mine : Knows n ends log_after h.core (with_action h k d)
     mine =
         let old = held.knows h.core h at in
         record {
           number_is = refl;
           slots_is = old.slots_is;
-          wires_is = old.wires_is;
+          ends_are = old.ends_are;
           did = ap (λ (xs : List Entry). xs ++ the_step ∷ []) old.did ∙ sym (steps_more h.core held.log the_step refl);
           of_room = λ j is. absurd (nothing_room j is);
         }
 
-    knows_after : (c : ℕ) (v : CoreView) → ((c ≡ h.core) × (with_deed h k d ≡ v)) ⊎ ((c ≢ h.core) × (get_elem? cores c ≡ some v)) → Knows n wires log_after c v
+    knows_after : (c : ℕ) (v : CoreView) → ((c ≡ h.core) × (with_action h k d ≡ v)) ⊎ ((c ≢ h.core) × (get_elem? cores c ≡ some v)) → Knows n ends log_after c v
     knows_after c v (inl (here, is)) =
-        subst (λ (y : ℕ). Knows n wires log_after y v) (sym here) (subst (λ (y : CoreView). Knows n wires log_after h.core y) is mine)
+        subst (λ (y : ℕ). Knows n ends log_after y v) (sym here) (subst (λ (y : CoreView). Knows n ends log_after h.core y) is mine)
     knows_after c v (inr (ne, was)) =
         let old = held.knows c v was in
         record {
           number_is = old.number_is;
           slots_is = old.slots_is;
-          wires_is = old.wires_is;
+          ends_are = old.ends_are;
           did = old.did ∙ sym (steps_same c held.log the_step (λ e. ne (sym e)));
           of_room = λ j is. room_still c v ne old j is;
         }
 
-    pub noted : Holds n wires (set ws (k * n + p % n) x) (set cores h.core (with_deed h k d))
+    pub noted : Holds n ends (set ws (k * n + p % n) x) (set cores h.core (with_action h k d))
     noted = record {
       log = log_after;
       rings = set held.rings k left;
-      runs = runs_more (Goes n) (all_empty (length wires)) held.log held.rings (set held.rings k left) the_step held.runs (record { found = r; left = left; stood = stood; does = does; leaves = refl });
-      wired = λ i e there_is. log_wired i e (at_snoc held.log the_step e i there_is);
+      runs = runs_more (Goes n) (all_empty (length ends)) held.log held.rings (set held.rings k left) the_step held.runs (record { found = r; left = left; stood = stood; does = does; leaves = refl });
+      by_its_core = λ i e there_is. log_by i e (at_snoc held.log the_step e i there_is);
       some_slots = held.some_slots;
       wide = length-set ws (k * n + p % n) x ∙ held.wide;
       many = length-set held.rings k left ∙ held.many;
       stands = λ j m there_is. stands_after j m (at_set held.rings k j left m there_is);
-      knows = λ c v there_is. knows_after c v (at_set cores h.core c (with_deed h k d) v there_is);
+      knows = λ c v there_is. knows_after c v (at_set cores h.core c (with_action h k d) v there_is);
     }
 
   -- a load that is noted
-  pub noted_load : (k : ℕ) (d : Deed) → IsWired wires (entry h.core k d) → (r left : Ring) → get_elem? held.rings k ≡ some r → Does n r d left → (p s g f : ℕ)
-      → s ≡ puts_at k held.log + one_put d → g ≡ finds_at k held.log + one_found d → f ≡ frees_at k held.log + one_freed d → Stands n ws (k * n) s g f left → Holds n wires ws (set cores h.core (with_deed h k d))
-  noted_load k d wired r left stood does p s g f es eg ef stands =
+  pub noted_load : (k : ℕ) (d : Action) → IsByItsCore ends (entry h.core k d) → (r left : Ring) → get_elem? held.rings k ≡ some r → Does n r d left → (p s g f : ℕ)
+      → s ≡ puts_at k held.log + one_put d → g ≡ finds_at k held.log + one_found d → f ≡ frees_at k held.log + one_freed d → Stands n ws (k * n) (counts s g f) left → Holds n ends ws (set cores h.core (with_action h k d))
+  noted_load k d by_its_core r left stood does p s g f es eg ef stands =
       let i : ℕ = k * n + p % n in
       let same : set ws i (get_or ws i 0) ≡ ws = set-get_or ws i 0 in
-      subst (λ (xs : List ℕ). Holds n wires xs (set cores h.core (with_deed h k d))) same
-      (noted k d wired r left stood does p (get_or ws i 0) s g f es eg ef (subst (λ (xs : List ℕ). Stands n xs (k * n) s g f left) (sym same) stands))
+      subst (λ (xs : List ℕ). Holds n ends xs (set cores h.core (with_action h k d))) same
+      (noted k d by_its_core r left stood does p (get_or ws i 0) s g f es eg ef (subst (λ (xs : List ℕ). Stands n xs (k * n) (counts s g f) left) (sym same) stands))
 
   -- a step that isn't: the core knows that there is room
-  pub unnoted : (k : ℕ) (w : Wire) → get_elem? wires k ≡ some w → w.writer ≡ h.core → puts_at k held.log < frees_at k held.log + n → Holds n wires ws (set cores h.core (knowing h (Room k)))
+  pub unnoted : (k : ℕ) (w : RingEnds) → get_elem? ends k ≡ some w → w.writer ≡ h.core → puts_at k held.log < frees_at k held.log + n → Holds n ends ws (set cores h.core (knowing h (Room k)))
   unnoted k w there_is writes room = record {
     log = held.log;
     rings = held.rings;
     runs = held.runs;
-    wired = held.wired;
+    by_its_core = held.by_its_core;
     some_slots = held.some_slots;
     wide = held.wide;
     many = held.many;
@@ -151,22 +151,22 @@ module _ (n : ℕ) (wires : List Wire) (ws : List ℕ) (cores : List CoreView) (
     knows = λ c v e. knows_after c v (at_set cores h.core c (knowing h (Room k)) v e);
   }
     where
-      mine : Knows n wires held.log h.core (knowing h (Room k))
+      mine : Knows n ends held.log h.core (knowing h (Room k))
       mine =
           let old = held.knows h.core h at in
           record {
             number_is = refl;
             slots_is = old.slots_is;
-            wires_is = old.wires_is;
+            ends_are = old.ends_are;
             did = old.did;
             of_room = λ j is.
-                subst (λ (y : ℕ). (u : Wire) × (get_elem? wires y ≡ some u) × (u.writer ≡ h.core) × (puts_at y held.log < frees_at y held.log + n)) (room_same k j is)
+                subst (λ (y : ℕ). (u : RingEnds) × (get_elem? ends y ≡ some u) × (u.writer ≡ h.core) × (puts_at y held.log < frees_at y held.log + n)) (room_same k j is)
                 (w, there_is, writes, room);
           }
 
-      knows_after : (c : ℕ) (v : CoreView) → ((c ≡ h.core) × (knowing h (Room k) ≡ v)) ⊎ ((c ≢ h.core) × (get_elem? cores c ≡ some v)) → Knows n wires held.log c v
+      knows_after : (c : ℕ) (v : CoreView) → ((c ≡ h.core) × (knowing h (Room k) ≡ v)) ⊎ ((c ≢ h.core) × (get_elem? cores c ≡ some v)) → Knows n ends held.log c v
       knows_after c v (inl (here, is)) =
-          subst (λ (y : ℕ). Knows n wires held.log y v) (sym here) (subst (λ (y : CoreView). Knows n wires held.log h.core y) is mine)
+          subst (λ (y : ℕ). Knows n ends held.log y v) (sym here) (subst (λ (y : CoreView). Knows n ends held.log h.core y) is mine)
       knows_after c v (inr (ne, was)) = held.knows c v was
 
 -- ---- whose seat is whose

@@ -10,18 +10,18 @@ use lib.ListN.{get_elem?, length-replicate}
 use Rattle.atomic_table.specs.Seated.{TableId}
 use Rattle.atomic_table.specs.Table.{Step, step}
 use Rattle.fl_ring.proofs.SharedMakes.{all_zero}
-use Rattle.fl_history_rings.specs.declared.board.Deed.{Deed}
-use Rattle.fl_history_rings.specs.declared.board.Deed.TheVariants.{Put, Full, Found, Missed, Freed}
+use Rattle.fl_history_rings.specs.declared.board.Action.{Action}
+use Rattle.fl_history_rings.specs.declared.board.Action.TheVariants.{Put, Full, Found, Missed, Freed}
 use Rattle.fl_history_rings.specs.declared.board.Entry.{Entry}
-use Rattle.fl_history_rings.specs.declared.board.Wire.{Wire}
+use Rattle.fl_history_rings.specs.declared.board.RingEnds.{RingEnds}
 use Rattle.fl_history_rings.specs.declared.board.Plan.{Plan}
 use Rattle.fl_history_rings.specs.declared.board.Own.{Own}
 use Rattle.fl_history_rings.specs.declared.board.Board.{Board}
 use Rattle.fl_history_rings.specs.declared.board.Insight.TheVariants.{Room}
 use Rattle.fl_history_rings.specs.declared.board.CoreView.{CoreView}
 use Rattle.fl_history_rings.specs.Rings.{entry, steps_of}
-use Rattle.fl_history_rings.specs.Rule.{tally, one_put, one_found, one_freed, puts_at, finds_at, frees_at, at_rest, knowing, with_deed, seat_of, one_core, core_of, fresh_cores, without_first, first_alone, both_of}
-use Rattle.fl_history_rings.specs.Rule.{looks_for_room, stores_letter, looks_for_letter, frees, OneOrder}
+use Rattle.fl_history_rings.specs.Rule.{tally, one_put, one_found, one_freed, puts_at, finds_at, frees_at, at_rest, knowing, with_action, seat_of, one_core, core_of, fresh_cores, without_first, first_alone, both_of}
+use Rattle.fl_history_rings.specs.Rule.{looks_for_room, stores_letter, looks_for_letter, frees_slot, OneOrder}
 use Rattle.fl_history_rings.specs.Cores.{RingsSeat, number_at, steps_at, IsLaid, IsSeated, key_of, ArePlaces, IsCore, IsOwn, IsWhole, TheCore, shown, core_shown, noting, Writes, Reads}
 use Rattle.fl_history_rings.specs.Cores.{TheGathering, IsGathering, gathering_shown, gathering_of, with_core, InOneOrder}
 use Rattle.fl_history_rings.proofs.Logs.{within, same_there, tally_here, tally_else}
@@ -33,9 +33,9 @@ use Rattle.fl_history_rings.proofs.Allowed.{Seated, alone_at}
 pub word_is : (k slots place n p : ℕ) → slots ≡ n → place ≡ p % slots → k * slots + place ≡ k * n + p % n
 word_is k slots place n p sized placed = ap (λ (x : ℕ). k * slots + x) placed ∙ ap (λ (m : ℕ). k * m + p % m) sized
 
-pub word_low : (table : TableId) (plan : Plan) (k : ℕ) (w : Wire) (x : ℕ) → IsLaid table plan → get_elem? plan.wires.items k ≡ some w → x < plan.slots → k * plan.slots + x < table.words
+pub word_low : (table : TableId) (plan : Plan) (k : ℕ) (w : RingEnds) (x : ℕ) → IsLaid table plan → get_elem? plan.ends.items k ≡ some w → x < plan.slots → k * plan.slots + x < table.words
 word_low table plan k w x laid at low =
-    let a = word_within plan.slots k (length plan.wires.items) x (within plan.wires.items k w at) low in
+    let a = word_within plan.slots k (length plan.ends.items) x (within plan.ends.items k w at) low in
     let b = laid.wide in
     omega (arith, a, b)
 
@@ -53,60 +53,60 @@ module _ (h : CoreView) (m m' : Seated) (i k : ℕ) (is : m ≡ alone_at h) (her
       told.0 none ∙ ap (λ (x : Seated). let y : Seated = (one_core (knowing (core_of x.0) (Room (i / (core_of x.0).slots))), x.1) in y) is
       ∙ ap (λ (x : ℕ). alone_at (knowing h (Room x))) here
 
-  did_this : (d : Deed) → (let y : Seated = (one_core (with_deed (core_of m.0) (i / (core_of m.0).slots) d), m.1) in m' ≡ y) → m' ≡ alone_at (with_deed h k d)
+  did_this : (d : Action) → (let y : Seated = (one_core (with_action (core_of m.0) (i / (core_of m.0).slots) d), m.1) in m' ≡ y) → m' ≡ alone_at (with_action h k d)
   did_this d told =
-      told ∙ ap (λ (x : Seated). let y : Seated = (one_core (with_deed (core_of x.0) (i / (core_of x.0).slots) d), x.1) in y) is
-      ∙ ap (λ (x : ℕ). alone_at (with_deed h x d)) here
+      told ∙ ap (λ (x : Seated). let y : Seated = (one_core (with_action (core_of x.0) (i / (core_of x.0).slots) d), x.1) in y) is
+      ∙ ap (λ (x : ℕ). alone_at (with_action h x d)) here
 
-  pub after_full : (found : ℕ) → looks_for_room (a_step i) m found m' → found ≢ 0 → m' ≡ alone_at (with_deed h k Full)
+  pub after_full : (found : ℕ) → looks_for_room (a_step i) m found m' → found ≢ 0 → m' ≡ alone_at (with_action h k Full)
   after_full found told some_letter = did_this Full (told.1 some_letter)
 
-  pub after_put : (letter : ℕ) → stores_letter (a_step i) m letter m' → m' ≡ alone_at (with_deed h k (Put letter))
+  pub after_put : (letter : ℕ) → stores_letter (a_step i) m letter m' → m' ≡ alone_at (with_action h k (Put letter))
   after_put letter told = did_this (Put letter) told
 
-  pub after_missed : (found : ℕ) → looks_for_letter (a_step i) m found m' → found ≡ 0 → m' ≡ alone_at (with_deed h k Missed)
+  pub after_missed : (found : ℕ) → looks_for_letter (a_step i) m found m' → found ≡ 0 → m' ≡ alone_at (with_action h k Missed)
   after_missed found told none = did_this Missed (told.0 none)
 
-  pub after_found : (found : ℕ) → looks_for_letter (a_step i) m found m' → found ≢ 0 → m' ≡ alone_at (with_deed h k (Found found))
+  pub after_found : (found : ℕ) → looks_for_letter (a_step i) m found m' → found ≢ 0 → m' ≡ alone_at (with_action h k (Found found))
   after_found found told some_letter = did_this (Found found) (told.1 some_letter)
 
-  pub after_freed : frees (a_step i) m 0 m' → m' ≡ alone_at (with_deed h k Freed)
+  pub after_freed : frees_slot (a_step i) m 0 m' → m' ≡ alone_at (with_action h k Freed)
   after_freed told = did_this Freed told
 
 -- ---- a core's seat between two calls
 
-abbrev the_core : TableId → ℕ → List Wire → ℕ → List Entry → TheCore
-the_core table n wires number steps = record { table = table; slots = n; wires = wires; number = number; steps = steps }
+abbrev the_core : TableId → ℕ → List RingEnds → ℕ → List Entry → TheCore
+the_core table n ends number steps = record { table = table; slots = n; ends = ends; number = number; steps = steps }
 
 abbrev pub rest_of : Plan → RingsSeat → CoreView
-rest_of plan seat = at_rest plan.slots plan.wires.items (number_at seat) (steps_at seat)
+rest_of plan seat = at_rest plan.slots plan.ends.items (number_at seat) (steps_at seat)
 
 module _ (table : TableId) (plan : Plan) (old new : RingsSeat) (s : IsSeated table plan old) (same : new.table_id ≡ old.table_id) where
-  rests : (core : ℕ) (steps : List Entry) → new.me ≡ alone_at (at_rest plan.slots plan.wires.items core steps)
-      → IsSeated table plan new × (core_shown new ≡ the_core old.table_id plan.slots plan.wires.items core steps)
+  rests : (core : ℕ) (steps : List Entry) → new.me ≡ alone_at (at_rest plan.slots plan.ends.items core steps)
+      → IsSeated table plan new × (core_shown new ≡ the_core old.table_id plan.slots plan.ends.items core steps)
   rests core steps is = (
     record {
       same = same ∙ s.same;
       laid = s.laid;
-      resting = is ∙ ap (λ (m : Seated). alone_at (at_rest plan.slots plan.wires.items (core_of m.0).core (core_of m.0).steps)) (sym is);
+      resting = is ∙ ap (λ (m : Seated). alone_at (at_rest plan.slots plan.ends.items (core_of m.0).core (core_of m.0).steps)) (sym is);
     },
-    ap (λ (m : Seated). core_shown (record new { me = m })) is ∙ ap (λ (t : TableId). the_core t plan.slots plan.wires.items core steps) same,
+    ap (λ (m : Seated). core_shown (record new { me = m })) is ∙ ap (λ (t : TableId). the_core t plan.slots plan.ends.items core steps) same,
   )
 
   -- as the seat shows it
-  as_shown : (number : ℕ) (steps : List Entry) → the_core old.table_id plan.slots plan.wires.items number steps ≡ the_core old.table_id (core_of old.me.0).slots (core_of old.me.0).wires number steps
+  as_shown : (number : ℕ) (steps : List Entry) → the_core old.table_id plan.slots plan.ends.items number steps ≡ the_core old.table_id (core_of old.me.0).slots (core_of old.me.0).ends number steps
   as_shown number steps =
-      ap (λ (x : ℕ). the_core old.table_id x plan.wires.items number steps) (sym (ap (λ (m : Seated). (core_of m.0).slots) s.resting))
-      ∙ ap (λ (x : List Wire). the_core old.table_id (core_of old.me.0).slots x number steps) (sym (ap (λ (m : Seated). (core_of m.0).wires) s.resting))
+      ap (λ (x : ℕ). the_core old.table_id x plan.ends.items number steps) (sym (ap (λ (m : Seated). (core_of m.0).slots) s.resting))
+      ∙ ap (λ (x : List RingEnds). the_core old.table_id (core_of old.me.0).slots x number steps) (sym (ap (λ (m : Seated). (core_of m.0).ends) s.resting))
 
   -- once it did one thing more, and two
-  pub did_once : (k : ℕ) (d : Deed) → new.me ≡ alone_at (with_deed (rest_of plan old) k d) → IsSeated table plan new × (core_shown new ≡ noting (core_shown old) k d)
+  pub did_once : (k : ℕ) (d : Action) → new.me ≡ alone_at (with_action (rest_of plan old) k d) → IsSeated table plan new × (core_shown new ≡ noting (core_shown old) k d)
   did_once k d is =
       let steps : List Entry = steps_at old ++ entry (number_at old) k d ∷ [] in
       let r = rests (number_at old) steps is in
       (r.0, r.1 ∙ as_shown (number_at old) steps)
 
-  pub did_twice : (k : ℕ) (d e : Deed) → new.me ≡ alone_at (with_deed (with_deed (rest_of plan old) k d) k e) → IsSeated table plan new × (core_shown new ≡ noting (noting (core_shown old) k d) k e)
+  pub did_twice : (k : ℕ) (d e : Action) → new.me ≡ alone_at (with_action (with_action (rest_of plan old) k d) k e) → IsSeated table plan new × (core_shown new ≡ noting (noting (core_shown old) k d) k e)
   did_twice k d e is =
       let steps : List Entry = (steps_at old ++ entry (number_at old) k d ∷ []) ++ entry (number_at old) k e ∷ [] in
       let r = rests (number_at old) steps is in
@@ -117,10 +117,10 @@ module _ (table : TableId) (plan : Plan) (old new : RingsSeat) (s : IsSeated tab
 plus_zero : (x y z : ℕ) → x ≡ y + z → z ≡ 0 → x ≡ y
 plus_zero x y z a b = omega (arith, a, b)
 
-pub not_counted : (f : Deed → ℕ) (k : ℕ) (es : List Entry) (e : Entry) → f e.deed ≡ 0 → tally f k (es ++ e ∷ []) ≡ tally f k es
+pub not_counted : (f : Action → ℕ) (k : ℕ) (es : List Entry) (e : Entry) → f e.action ≡ 0 → tally f k (es ++ e ∷ []) ≡ tally f k es
 not_counted f k es e none =
     dite (ℕ_discrete e.ring k)
-    (λ is. plus_zero (tally f k (es ++ e ∷ [])) (tally f k es) (f e.deed) (tally_here f k es e is) none)
+    (λ is. plus_zero (tally f k (es ++ e ∷ [])) (tally f k es) (f e.action) (tally_here f k es e is) none)
     (λ ne. tally_else f k es e ne)
 
 -- a letter found, and acknowledged
@@ -183,7 +183,7 @@ module _ (table : TableId) (plan : Plan) (old new : RingsSeat) (number : ℕ) (p
   steps_now s is = (ap (λ (x : TheCore). x.steps) is, ap (λ (x : TheCore). x.number) is)
 
   -- nothing was put or taken
-  pub core_idle : (ring : ℕ) (d : Deed) → one_put d ≡ 0 → one_found d ≡ 0 → one_freed d ≡ 0 → core_shown new ≡ noting (core_shown old) ring d → IsCore table plan new number puts takes
+  pub core_idle : (ring : ℕ) (d : Action) → one_put d ≡ 0 → one_found d ≡ 0 → one_freed d ≡ 0 → core_shown new ≡ noting (core_shown old) ring d → IsCore table plan new number puts takes
   core_idle ring d p g f is =
       let now = steps_now (noting (core_shown old) ring d) is in
       let e : Entry = entry (number_at old) ring d in
@@ -193,13 +193,13 @@ module _ (table : TableId) (plan : Plan) (old new : RingsSeat) (number : ℕ) (p
       record {
         seated = seated;
         number_is = now.1 ∙ c.number_is;
-        puts_are = places_same (length plan.wires.items) plan.slots (λ k. puts_at k (steps_at old)) (λ k. puts_at k (steps_at new)) puts c.puts_are pk;
-        takes_are = places_same (length plan.wires.items) plan.slots (λ k. finds_at k (steps_at old)) (λ k. finds_at k (steps_at new)) takes c.takes_are gk;
+        puts_are = places_same (length plan.ends.items) plan.slots (λ k. puts_at k (steps_at old)) (λ k. puts_at k (steps_at new)) puts c.puts_are pk;
+        takes_are = places_same (length plan.ends.items) plan.slots (λ k. finds_at k (steps_at old)) (λ k. finds_at k (steps_at new)) takes c.takes_are gk;
         quiet = λ k. fk k ∙ (c.quiet k ∙ sym (gk k));
       }
 
   -- a letter was put
-  pub core_put : (ring letter x : ℕ) → ring < length plan.wires.items → x ≡ (puts_at ring (steps_at old) + 1) % plan.slots → core_shown new ≡ noting (core_shown old) ring (Put letter)
+  pub core_put : (ring letter x : ℕ) → ring < length plan.ends.items → x ≡ (puts_at ring (steps_at old) + 1) % plan.slots → core_shown new ≡ noting (core_shown old) ring (Put letter)
       → IsCore table plan new number (set puts ring x) takes
   core_put ring letter x low place is =
       let now = steps_now (noting (core_shown old) ring (Put letter)) is in
@@ -209,15 +209,15 @@ module _ (table : TableId) (plan : Plan) (old new : RingsSeat) (number : ℕ) (p
       record {
         seated = seated;
         number_is = now.1 ∙ c.number_is;
-        puts_are = places_on (length plan.wires.items) plan.slots (λ k. puts_at k (steps_at old)) (λ k. puts_at k (steps_at new)) puts ring x c.puts_are low
+        puts_are = places_on (length plan.ends.items) plan.slots (λ k. puts_at k (steps_at old)) (λ k. puts_at k (steps_at new)) puts ring x c.puts_are low
             (ap (λ (es : List Entry). puts_at ring es) now.0 ∙ tally_here one_put ring (steps_at old) e refl)
             (λ k ne. ap (λ (es : List Entry). puts_at k es) now.0 ∙ tally_else one_put k (steps_at old) e (λ same. ne (sym same))) place;
-        takes_are = places_same (length plan.wires.items) plan.slots (λ k. finds_at k (steps_at old)) (λ k. finds_at k (steps_at new)) takes c.takes_are gk;
+        takes_are = places_same (length plan.ends.items) plan.slots (λ k. finds_at k (steps_at old)) (λ k. finds_at k (steps_at new)) takes c.takes_are gk;
         quiet = λ k. fk k ∙ (c.quiet k ∙ sym (gk k));
       }
 
   -- a letter was taken
-  pub core_took : (ring letter x : ℕ) → ring < length plan.wires.items → x ≡ (finds_at ring (steps_at old) + 1) % plan.slots
+  pub core_took : (ring letter x : ℕ) → ring < length plan.ends.items → x ≡ (finds_at ring (steps_at old) + 1) % plan.slots
       → core_shown new ≡ noting (noting (core_shown old) ring (Found letter)) ring Freed → IsCore table plan new number puts (set takes ring x)
   core_took ring letter x low place is =
       let now = steps_now (noting (noting (core_shown old) ring (Found letter)) ring Freed) is in
@@ -226,9 +226,9 @@ module _ (table : TableId) (plan : Plan) (old new : RingsSeat) (number : ℕ) (p
       record {
         seated = seated;
         number_is = now.1 ∙ c.number_is;
-        puts_are = places_same (length plan.wires.items) plan.slots (λ k. puts_at k (steps_at old)) (λ k. puts_at k (steps_at new)) puts c.puts_are
+        puts_are = places_same (length plan.ends.items) plan.slots (λ k. puts_at k (steps_at old)) (λ k. puts_at k (steps_at new)) puts c.puts_are
             (λ k. ap (λ (xs : List Entry). puts_at k xs) now.0 ∙ took_puts es n ring letter k);
-        takes_are = places_on (length plan.wires.items) plan.slots (λ k. finds_at k (steps_at old)) (λ k. finds_at k (steps_at new)) takes ring x c.takes_are low
+        takes_are = places_on (length plan.ends.items) plan.slots (λ k. finds_at k (steps_at old)) (λ k. finds_at k (steps_at new)) takes ring x c.takes_are low
             (ap (λ (xs : List Entry). finds_at ring xs) now.0 ∙ took_finds es n ring letter)
             (λ k ne. ap (λ (xs : List Entry). finds_at k xs) now.0 ∙ took_finds_else es n ring letter k ne) place;
         quiet = λ k. subst (λ (xs : List Entry). frees_at k xs ≡ finds_at k xs) (sym now.0) (took_quiet es n ring letter c.quiet k);
@@ -248,17 +248,17 @@ blank_places count n f places any is none = (
 pub one_less : (cores next : ℕ) → next < cores → cores - next ≡ suc (cores - (next + 1))
 one_less cores next lt = omega arith
 
-module _ (table : TableId) (plan : Plan) (seat : RingsSeat) (number : ℕ) (puts takes : List ℕ) (laid : IsLaid table plan) (same : seat.table_id ≡ table) (is : seat.me ≡ alone_at (at_rest plan.slots plan.wires.items number [])) where
-  pub core_new : puts ≡ replicate (length plan.wires.items) 0 → takes ≡ replicate (length plan.wires.items) 0 → IsCore table plan seat number puts takes
+module _ (table : TableId) (plan : Plan) (seat : RingsSeat) (number : ℕ) (puts takes : List ℕ) (laid : IsLaid table plan) (same : seat.table_id ≡ table) (is : seat.me ≡ alone_at (at_rest plan.slots plan.ends.items number [])) where
+  pub core_new : puts ≡ replicate (length plan.ends.items) 0 → takes ≡ replicate (length plan.ends.items) 0 → IsCore table plan seat number puts takes
   core_new blank blank' =
       let steps : steps_at seat ≡ [] = ap (λ (m : Seated). (core_of m.0).steps) is in
       let none = λ (k : ℕ). ap (λ (es : List Entry). puts_at k es) steps in
       let none' = λ (k : ℕ). ap (λ (es : List Entry). finds_at k es) steps in
       record {
-        seated = record { same = same; laid = laid; resting = is ∙ ap (λ (m : Seated). alone_at (at_rest plan.slots plan.wires.items (core_of m.0).core (core_of m.0).steps)) (sym is) };
+        seated = record { same = same; laid = laid; resting = is ∙ ap (λ (m : Seated). alone_at (at_rest plan.slots plan.ends.items (core_of m.0).core (core_of m.0).steps)) (sym is) };
         number_is = ap (λ (m : Seated). (core_of m.0).core) is;
-        puts_are = blank_places (length plan.wires.items) plan.slots (λ k. puts_at k (steps_at seat)) puts laid.some_slots blank none;
-        takes_are = blank_places (length plan.wires.items) plan.slots (λ k. finds_at k (steps_at seat)) takes laid.some_slots blank' none';
+        puts_are = blank_places (length plan.ends.items) plan.slots (λ k. puts_at k (steps_at seat)) puts laid.some_slots blank none;
+        takes_are = blank_places (length plan.ends.items) plan.slots (λ k. finds_at k (steps_at seat)) takes laid.some_slots blank' none';
         quiet = λ k. ap (λ (es : List Entry). frees_at k es) steps ∙ sym (none' k);
       }
 
@@ -269,7 +269,7 @@ lone_cores m h is = ap (λ (x : Seated). x.0.cores) is ∙ ap (λ (x : Seated). 
 
 pub one_gathered : (table : TableId) (plan : Plan) (seat : RingsSeat) → IsSeated table plan seat → gathering_shown seat ≡ gathering_of (core_shown seat)
 one_gathered table plan seat s =
-    ap (λ (cores : List CoreView). let g : TheGathering = record { table = seat.table_id; slots = (core_of seat.me.0).slots; wires = (core_of seat.me.0).wires; cores = map (shown seat.table_id) cores } in g)
+    ap (λ (cores : List CoreView). let g : TheGathering = record { table = seat.table_id; slots = (core_of seat.me.0).slots; ends = (core_of seat.me.0).ends; cores = map (shown seat.table_id) cores } in g)
     (lone_cores seat.me (rest_of plan seat) s.resting)
 
 pub some_first : (l : List CoreView) → 0 < length l → (h : CoreView) × (hs : List CoreView) × (l ≡ h ∷ hs)
@@ -285,7 +285,7 @@ first_stays [] ys d p = absurd (omega arith)
 first_stays (x ∷ xs) ys d p = refl
 
 abbrev gathered : TableId → CoreView → List TheCore → TheGathering
-gathered table h cores = record { table = table; slots = h.slots; wires = h.wires; cores = cores }
+gathered table h cores = record { table = table; slots = h.slots; ends = h.ends; cores = cores }
 
 pub more_gathered : (table : TableId) (plan : Plan) (old new seat : RingsSeat) → IsSeated table plan seat → 0 < length old.me.0.cores → new.table_id ≡ old.table_id → seat.table_id ≡ old.table_id
     → new.me ≡ (both_of old.me.0 seat.me.0, old.me.1) → gathering_shown new ≡ with_core (gathering_shown old) (core_shown seat)
@@ -307,12 +307,12 @@ at_map f [] i c e = absurd (some-ne-none c (sym e))
 at_map f (x ∷ xs) zero c e = (x, refl, some-injective (f x) c e)
 at_map f (x ∷ xs) (suc i) c e = at_map f xs i c e
 
-pub settled : (n : ℕ) (wires : List Wire) (table : TableId) (cores : List CoreView) → OneOrder n wires cores → InOneOrder n wires (map (shown table) cores)
-settled n wires table cores order = record {
+pub settled : (n : ℕ) (ends : List RingEnds) (table : TableId) (cores : List CoreView) → OneOrder n ends cores → InOneOrder n ends (map (shown table) cores)
+settled n ends table cores order = record {
   log = order.log;
   rings = order.rings;
   runs = order.runs;
-  wired = order.wired;
+  by_its_core = order.by_its_core;
   did = λ i c e. did i c (at_map (shown table) cores i c e);
 }
   where
@@ -321,7 +321,7 @@ settled n wires table cores order = record {
 
 -- ---- a word of one's own ring
 
-pub word_fits : (table : TableId) (plan : Plan) (k : ℕ) (w : Wire) (slots place p : ℕ) → IsLaid table plan → get_elem? plan.wires.items k ≡ some w → slots ≡ plan.slots → place ≡ p % slots → k * slots + place < table.words
+pub word_fits : (table : TableId) (plan : Plan) (k : ℕ) (w : RingEnds) (slots place p : ℕ) → IsLaid table plan → get_elem? plan.ends.items k ≡ some w → slots ≡ plan.slots → place ≡ p % slots → k * slots + place < table.words
 word_fits table plan k w slots place p laid at sized placed =
     subst (λ (x : ℕ). x < table.words) (sym (word_is k slots place plan.slots p sized placed)) (word_low table plan k w (p % plan.slots) laid at (mod_below p plan.slots laid.some_slots))
 
@@ -331,24 +331,24 @@ freed_word k n i g f is same = is ∙ ap (λ (x : ℕ). k * n + x % n) (sym same
 
 -- ---- who may, as code finds it
 
-pub writes_there : (wires : List Wire) (ring core : ℕ) (w : Wire) → true ≡ ltb ring (length wires) → w ≡ get_or wires ring w → eqb w.writer core ≡ true → Writes wires ring core
-writes_there wires ring core w low here is = (w, at_index wires ring w (ltb-true ring (length wires) (sym low)) here, eqb-true w.writer core is)
+pub writes_there : (ends : List RingEnds) (ring core : ℕ) (w : RingEnds) → true ≡ ltb ring (length ends) → w ≡ get_or ends ring w → eqb w.writer core ≡ true → Writes ends ring core
+writes_there ends ring core w low here is = (w, at_index ends ring w (ltb-true ring (length ends) (sym low)) here, eqb-true w.writer core is)
 
-pub reads_there : (wires : List Wire) (ring core : ℕ) (w : Wire) → true ≡ ltb ring (length wires) → w ≡ get_or wires ring w → eqb w.reader core ≡ true → Reads wires ring core
-reads_there wires ring core w low here is = (w, at_index wires ring w (ltb-true ring (length wires) (sym low)) here, eqb-true w.reader core is)
+pub reads_there : (ends : List RingEnds) (ring core : ℕ) (w : RingEnds) → true ≡ ltb ring (length ends) → w ≡ get_or ends ring w → eqb w.reader core ≡ true → Reads ends ring core
+reads_there ends ring core w low here is = (w, at_index ends ring w (ltb-true ring (length ends) (sym low)) here, eqb-true w.reader core is)
 
-pub nobody_there : (wires : List Wire) (ring : ℕ) (w : Wire) → false ≡ ltb ring (length wires) → get_elem? wires ring ≡ some w → ⊥
-nobody_there wires ring w past at = let a = within wires ring w at in let b = ltb-false ring (length wires) (sym past) in omega (arith, a, b)
+pub nobody_there : (ends : List RingEnds) (ring : ℕ) (w : RingEnds) → false ≡ ltb ring (length ends) → get_elem? ends ring ≡ some w → ⊥
+nobody_there ends ring w past at = let a = within ends ring w at in let b = ltb-false ring (length ends) (sym past) in omega (arith, a, b)
 
-pub other_writer : (wires : List Wire) (ring core : ℕ) (w : Wire) → true ≡ ltb ring (length wires) → w ≡ get_or wires ring w → eqb w.writer core ≡ false → Writes wires ring core → ⊥
-other_writer wires ring core w low here not_it (u, at, writes) =
-    let same : u ≡ w = same_there wires ring u w at (at_index wires ring w (ltb-true ring (length wires) (sym low)) here) in
-    false≢true (sym not_it ∙ eq-eqb w.writer core (ap (λ (x : Wire). x.writer) (sym same) ∙ writes))
+pub other_writer : (ends : List RingEnds) (ring core : ℕ) (w : RingEnds) → true ≡ ltb ring (length ends) → w ≡ get_or ends ring w → eqb w.writer core ≡ false → Writes ends ring core → ⊥
+other_writer ends ring core w low here not_it (u, at, writes) =
+    let same : u ≡ w = same_there ends ring u w at (at_index ends ring w (ltb-true ring (length ends) (sym low)) here) in
+    false≢true (sym not_it ∙ eq-eqb w.writer core (ap (λ (x : RingEnds). x.writer) (sym same) ∙ writes))
 
-pub other_reader : (wires : List Wire) (ring core : ℕ) (w : Wire) → true ≡ ltb ring (length wires) → w ≡ get_or wires ring w → eqb w.reader core ≡ false → Reads wires ring core → ⊥
-other_reader wires ring core w low here not_it (u, at, reads) =
-    let same : u ≡ w = same_there wires ring u w at (at_index wires ring w (ltb-true ring (length wires) (sym low)) here) in
-    false≢true (sym not_it ∙ eq-eqb w.reader core (ap (λ (x : Wire). x.reader) (sym same) ∙ reads))
+pub other_reader : (ends : List RingEnds) (ring core : ℕ) (w : RingEnds) → true ≡ ltb ring (length ends) → w ≡ get_or ends ring w → eqb w.reader core ≡ false → Reads ends ring core → ⊥
+other_reader ends ring core w low here not_it (u, at, reads) =
+    let same : u ≡ w = same_there ends ring u w at (at_index ends ring w (ltb-true ring (length ends) (sym low)) here) in
+    false≢true (sym not_it ∙ eq-eqb w.reader core (ap (λ (x : RingEnds). x.reader) (sym same) ∙ reads))
 
 -- a place, as code reads it
 any_default : (l : List ℕ) (i d e : ℕ) → i < length l → get_or l i d ≡ get_or l i e
@@ -364,45 +364,45 @@ pub place_low : (place p n : ℕ) → 0 < n → place ≡ p % n → place < n
 place_low place p n any is = subst (λ (x : ℕ). x < n) (sym is) (mod_below p n any)
 
 -- what a core shows of its rings, and what its code has of them
-pub shown_wires : (table : TableId) (plan : Plan) (own : Own) (s : TheCore) → IsOwn table plan own → core_shown own.seat ≡ s → s.wires ≡ plan.wires.items
-shown_wires table plan own s c is = ap (λ (x : TheCore). x.wires) (sym is) ∙ ap (λ (m : Seated). (core_of m.0).wires) c.seated.resting
+pub shown_ends : (table : TableId) (plan : Plan) (own : Own) (s : TheCore) → IsOwn table plan own → core_shown own.seat ≡ s → s.ends ≡ plan.ends.items
+shown_ends table plan own s c is = ap (λ (x : TheCore). x.ends) (sym is) ∙ ap (λ (m : Seated). (core_of m.0).ends) c.seated.resting
 
 pub shown_number : (table : TableId) (plan : Plan) (own : Own) (s : TheCore) → IsOwn table plan own → core_shown own.seat ≡ s → s.number ≡ own.number
 shown_number table plan own s c is = ap (λ (x : TheCore). x.number) (sym is) ∙ c.number_is
 
-pub writes_alike : (xs ys : List Wire) (ring m n : ℕ) → xs ≡ ys → m ≡ n → Writes xs ring m → Writes ys ring n
-writes_alike xs ys ring m n same number h = subst (λ (x : ℕ). Writes ys ring x) number (subst (λ (l : List Wire). Writes l ring m) same h)
+pub writes_alike : (xs ys : List RingEnds) (ring m n : ℕ) → xs ≡ ys → m ≡ n → Writes xs ring m → Writes ys ring n
+writes_alike xs ys ring m n same number h = subst (λ (x : ℕ). Writes ys ring x) number (subst (λ (l : List RingEnds). Writes l ring m) same h)
 
-pub reads_alike : (xs ys : List Wire) (ring m n : ℕ) → xs ≡ ys → m ≡ n → Reads xs ring m → Reads ys ring n
-reads_alike xs ys ring m n same number h = subst (λ (x : ℕ). Reads ys ring x) number (subst (λ (l : List Wire). Reads l ring m) same h)
+pub reads_alike : (xs ys : List RingEnds) (ring m n : ℕ) → xs ≡ ys → m ≡ n → Reads xs ring m → Reads ys ring n
+reads_alike xs ys ring m n same number h = subst (λ (x : ℕ). Reads ys ring x) number (subst (λ (l : List RingEnds). Reads l ring m) same h)
 
-pub writes_low : (wires : List Wire) (ring core : ℕ) → Writes wires ring core → ring < length wires
-writes_low wires ring core mine = within wires ring mine.0 mine.1
+pub writes_low : (ends : List RingEnds) (ring core : ℕ) → Writes ends ring core → ring < length ends
+writes_low ends ring core mine = within ends ring mine.0 mine.1
 
-pub reads_low : (wires : List Wire) (ring core : ℕ) → Reads wires ring core → ring < length wires
-reads_low wires ring core mine = within wires ring mine.0 mine.1
+pub reads_low : (ends : List RingEnds) (ring core : ℕ) → Reads ends ring core → ring < length ends
+reads_low ends ring core mine = within ends ring mine.0 mine.1
 
 -- ---- cores that aren't given out yet
 
-module _ (n : ℕ) (wires : List Wire) (cores next : ℕ) (m : Seated) (some_left : next < cores) (is : let y : Seated = (seat_of (fresh_cores n wires next (cores - next)), []) in m ≡ y) where
+module _ (n : ℕ) (ends : List RingEnds) (cores next : ℕ) (m : Seated) (some_left : next < cores) (is : let y : Seated = (seat_of (fresh_cores n ends next (cores - next)), []) in m ≡ y) where
   abbrev still : ℕ
   still = cores - (next + 1)
 
-  whole : (let y : Seated = (seat_of (fresh_cores n wires next (suc still)), []) in m ≡ y)
-  whole = is ∙ ap (λ (x : ℕ). let y : Seated = (seat_of (fresh_cores n wires next x), []) in y) (one_less cores next some_left)
+  whole : (let y : Seated = (seat_of (fresh_cores n ends next (suc still)), []) in m ≡ y)
+  whole = is ∙ ap (λ (x : ℕ). let y : Seated = (seat_of (fresh_cores n ends next x), []) in y) (one_less cores next some_left)
 
-  pub waits_there : m.0 ≡ seat_of (fresh_cores n wires next (suc (cores - (next + 1))))
+  pub waits_there : m.0 ≡ seat_of (fresh_cores n ends next (suc (cores - (next + 1))))
   waits_there = ap (λ (x : Seated). x.0) whole
 
   -- the next core's seat, and what is left
-  pub given_out : (m' : Seated) → (let y : Seated = (first_alone m.0, []) in m' ≡ y) → m' ≡ alone_at (at_rest n wires next [])
+  pub given_out : (m' : Seated) → (let y : Seated = (first_alone m.0, []) in m' ≡ y) → m' ≡ alone_at (at_rest n ends next [])
   given_out m' first = first ∙ ap (λ (x : Seated). let y : Seated = (first_alone x.0, []) in y) whole
 
-  pub left_over : (m' : Seated) → (let y : Seated = (without_first m.0, m.1) in m' ≡ y) → (let y : Seated = (seat_of (fresh_cores n wires (next + 1) (cores - (next + 1))), []) in m' ≡ y)
+  pub left_over : (m' : Seated) → (let y : Seated = (without_first m.0, m.1) in m' ≡ y) → (let y : Seated = (seat_of (fresh_cores n ends (next + 1) (cores - (next + 1))), []) in m' ≡ y)
   left_over m' others =
       let one_on : suc next ≡ next + 1 = omega arith in
       others ∙ ap (λ (x : Seated). let y : Seated = (without_first x.0, x.1) in y) whole
-      ∙ ap (λ (x : ℕ). let y : Seated = (seat_of (fresh_cores n wires x still), []) in y) one_on
+      ∙ ap (λ (x : ℕ). let y : Seated = (seat_of (fresh_cores n ends x still), []) in y) one_on
 
 pub one_gathering : (board : Board) (own : Own) → IsWhole board own → IsGathering board own.seat
 one_gathering board own whole =
@@ -433,14 +433,14 @@ both_gathering board old new seat g same is =
 pub some_left : (board b : Board) (next : ℕ) → b ≡ board → key_of board ≡ board.plan → next < b.plan.cores → next < (key_of board).cores
 some_left board b next is plan_is low = subst (λ (p : Plan). next < p.cores) (sym plan_is) (subst (λ (x : Board). next < x.plan.cores) is low)
 
-pub core_wires : (board b : Board) (own : Own) (s : TheCore) (xs : List Wire) → IsWhole board own → core_shown own.seat ≡ s → b ≡ board → xs ≡ b.plan.wires.items → s.wires ≡ xs
-core_wires board b own s xs whole shows is list =
-    shown_wires board.table.shared.table_id (key_of board) own s whole.own_is shows
-    ∙ (ap (λ (p : Plan). p.wires.items) whole.plan_is ∙ (ap (λ (x : Board). x.plan.wires.items) (sym is) ∙ sym list))
+pub core_ends : (board b : Board) (own : Own) (s : TheCore) (xs : List RingEnds) → IsWhole board own → core_shown own.seat ≡ s → b ≡ board → xs ≡ b.plan.ends.items → s.ends ≡ xs
+core_ends board b own s xs whole shows is list =
+    shown_ends board.table.shared.table_id (key_of board) own s whole.own_is shows
+    ∙ (ap (λ (p : Plan). p.ends.items) whole.plan_is ∙ (ap (λ (x : Board). x.plan.ends.items) (sym is) ∙ sym list))
 
 pub core_slots : (board b d : Board) → key_of board ≡ board.plan → b ≡ board → d ≡ board → b.plan.slots ≡ (key_of d).slots
 core_slots board b d plan_is is same = ap (λ (x : Board). x.plan.slots) is ∙ (ap (λ (p : Plan). p.slots) (sym plan_is) ∙ ap (λ (x : Board). (key_of x).slots) (sym same))
 
-pub key_wires : (board b d : Board) (xs : List Wire) → key_of board ≡ board.plan → b ≡ board → d ≡ board → xs ≡ b.plan.wires.items → xs ≡ (key_of d).wires.items
-key_wires board b d xs plan_is is same list =
-    list ∙ (ap (λ (x : Board). x.plan.wires.items) is ∙ (ap (λ (p : Plan). p.wires.items) (sym plan_is) ∙ ap (λ (x : Board). (key_of x).wires.items) (sym same)))
+pub key_ends : (board b d : Board) (xs : List RingEnds) → key_of board ≡ board.plan → b ≡ board → d ≡ board → xs ≡ b.plan.ends.items → xs ≡ (key_of d).ends.items
+key_ends board b d xs plan_is is same list =
+    list ∙ (ap (λ (x : Board). x.plan.ends.items) is ∙ (ap (λ (p : Plan). p.ends.items) (sym plan_is) ∙ ap (λ (x : Board). (key_of x).ends.items) (sym same)))

@@ -9,7 +9,7 @@ use lib.ListN.{get_elem?}
 use Rattle.fl_ring.proofs.Places.{one_round}
 use Rattle.fl_ring.proofs.SharedMakes.{at_end}
 use Rattle.fl_history_rings.specs.Rings.{Ring, ring_of}
-use Rattle.fl_history_rings.specs.Rule.{Stands}
+use Rattle.fl_history_rings.specs.Rule.{counts, Stands}
 use Rattle.fl_history_rings.proofs.Logs.{within}
 
 -- ---- where slots are
@@ -40,7 +40,7 @@ word_within n k count x lt small = omega (arith, mul-le (k + 1) n count n (omega
 
 -- ---- other words
 
-pub stands_still : (n : ℕ) (ws ws' : List ℕ) (b s g f : ℕ) (r : Ring) → 0 < n → ((x : ℕ) → x < n → get_or ws' (b + x) 0 ≡ get_or ws (b + x) 0) → Stands n ws b s g f r → Stands n ws' b s g f r
+pub stands_still : (n : ℕ) (ws ws' : List ℕ) (b s g f : ℕ) (r : Ring) → 0 < n → ((x : ℕ) → x < n → get_or ws' (b + x) 0 ≡ get_or ws (b + x) 0) → Stands n ws b (counts s g f) r → Stands n ws' b (counts s g f) r
 stands_still n ws ws' b s g f r any same h = record {
   waits = h.waits;
   holds = h.holds;
@@ -50,7 +50,7 @@ stands_still n ws ws' b s g f r any same h = record {
   letters = λ i letter at. same ((g + i) % n) (mod_below (g + i) n any) ∙ h.letters i letter at;
 }
 
-module _ (n : ℕ) (ws : List ℕ) (b s g f : ℕ) (r : Ring) (some_slots : 0 < n) (h : Stands n ws b s g f r) where
+module _ (n : ℕ) (ws : List ℕ) (b s g f : ℕ) (r : Ring) (some_slots : 0 < n) (h : Stands n ws b (counts s g f) r) where
   order : (f ≤ g) × (g ≤ s) × (s ≤ f + n)
   order = (omega (arith, h.holds), omega (arith, h.waits), h.room)
 
@@ -97,7 +97,7 @@ module _ (n : ℕ) (ws : List ℕ) (b s g f : ℕ) (r : Ring) (some_slots : 0 < 
         put_before (g + i) (omega (arith, o.0)) (omega (arith, low, h.waits)) ∙ h.letters i letter at
     put_letters i letter (inr (last, is)) = put_here (g + i) (omega (arith, last, h.waits)) ∙ is
 
-    pub stands_put : Stands n (set ws (b + s % n) x) b (s + 1) g f (ring_of (r.waiting ++ x ∷ []) r.held)
+    pub stands_put : Stands n (set ws (b + s % n) x) b (counts (s + 1) g f) (ring_of (r.waiting ++ x ∷ []) r.held)
     stands_put = record {
       waits = omega (arith, length-append r.waiting (x ∷ []), h.waits);
       holds = h.holds;
@@ -134,7 +134,7 @@ module _ (n : ℕ) (ws : List ℕ) (b s g f : ℕ) (r : Ring) (some_slots : 0 < 
     pub found_first : (rest : List ℕ) × (r.waiting ≡ x ∷ rest)
     found_first = first_of r.waiting refl
 
-    pub stands_found : Stands n ws b s (g + 1) f (ring_of found_first.0 (r.held + 1))
+    pub stands_found : Stands n ws b (counts s (g + 1) f) (ring_of found_first.0 (r.held + 1))
     stands_found =
         let first = found_first in
         record {
@@ -179,7 +179,7 @@ module _ (n : ℕ) (ws : List ℕ) (b s g f : ℕ) (r : Ring) (some_slots : 0 < 
         less zero p = absurd (omega arith)
         less (suc m) p = (m, omega arith)
 
-    pub stands_freed : Stands n (set ws (b + f % n) 0) b s g (f + 1) (ring_of r.waiting one_held.0)
+    pub stands_freed : Stands n (set ws (b + f % n) 0) b (counts s g (f + 1)) (ring_of r.waiting one_held.0)
     stands_freed =
         let one = one_held in
         record {

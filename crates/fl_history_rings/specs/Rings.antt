@@ -2,10 +2,10 @@
 use Rattle.std.specs.Prelude.{ℕ, ◌≡◌, ◌+◌, ◌<◌, ◌==◌, if◌then◌else◌, List, [], ◌∷◌, ◌++◌, length, replicate, slice_set}
 use mathlib.Core.Option.{some}
 use lib.ListN.{get_elem?}
-use Rattle.fl_history_rings.specs.declared.board.Deed.{Deed}
-use Rattle.fl_history_rings.specs.declared.board.Deed.TheVariants.{Put, Full, Found, Missed, Freed}
+use Rattle.fl_history_rings.specs.declared.board.Action.{Action}
+use Rattle.fl_history_rings.specs.declared.board.Action.TheVariants.{Put, Full, Found, Missed, Freed}
 use Rattle.fl_history_rings.specs.declared.board.Entry.{Entry}
-use Rattle.fl_history_rings.specs.declared.board.Wire.{Wire}
+use Rattle.fl_history_rings.specs.declared.board.RingEnds.{RingEnds}
 
 -- how a ring stands
 pub record Ring : Type 0 where
@@ -17,8 +17,8 @@ pub record Ring : Type 0 where
 abbrev pub ring_of : List ℕ → ℕ → Ring
 ring_of waiting held = record { waiting = waiting; held = held }
 
--- one deed at a ring of n slots: how it finds the ring, and how it leaves it
-abbrev pub Does : ℕ → Ring → Deed → Ring → Type 0
+-- one action at a ring of n slots: how it finds the ring, and how it leaves it
+abbrev pub Does : ℕ → Ring → Action → Ring → Type 0
 Does n r (Put letter) s = (length r.waiting + r.held < n) × (s ≡ ring_of (r.waiting ++ letter ∷ []) r.held)
 Does n r Full s = (length r.waiting + r.held ≡ n) × (s ≡ r)
 Does n r (Found letter) s = (r.waiting ≡ letter ∷ s.waiting) × (s.held ≡ r.held + 1)
@@ -26,15 +26,15 @@ Does n r Missed s = (r.waiting ≡ []) × (s ≡ r)
 Does n r Freed s = (s.waiting ≡ r.waiting) × (r.held ≡ s.held + 1)
 
 -- who did what where
-abbrev pub entry : ℕ → ℕ → Deed → Entry
-entry core ring deed = record { core = core; ring = ring; deed = deed }
+abbrev pub entry : ℕ → ℕ → Action → Entry
+entry core ring action = record { core = core; ring = ring; action = action }
 
--- one step: its deed at its ring, and no other ring changes
+-- one step: its action at its ring, and no other ring changes
 pub record Goes (n : ℕ) (before : List Ring) (e : Entry) (after : List Ring) : Type 0 where
   pub found : Ring
   pub left : Ring
   pub stood : get_elem? before e.ring ≡ some found
-  pub does : Does n found e.deed left
+  pub does : Does n found e.action left
   pub leaves : after ≡ slice_set before e.ring left
 
 -- steps in a row, each from where those before it have led
@@ -47,16 +47,16 @@ abbrev pub all_empty : ℕ → List Ring
 all_empty count = replicate count (ring_of [] 0)
 
 -- of the two cores of a ring the one that does such a thing there
-abbrev pub who_does : Wire → Deed → ℕ
-who_does w (Put letter) = w.writer
-who_does w Full = w.writer
-who_does w (Found letter) = w.reader
-who_does w Missed = w.reader
-who_does w Freed = w.reader
+abbrev pub who_does : RingEnds → Action → ℕ
+who_does both (Put letter) = both.writer
+who_does both Full = both.writer
+who_does both (Found letter) = both.reader
+who_does both Missed = both.reader
+who_does both Freed = both.reader
 
 -- the ring is there, and this was done by the one core that may
-abbrev pub IsWired : List Wire → Entry → Type 0
-IsWired wires e = (w : Wire) × (get_elem? wires e.ring ≡ some w) × (e.core ≡ who_does w e.deed)
+abbrev pub IsByItsCore : List RingEnds → Entry → Type 0
+IsByItsCore ends e = (both : RingEnds) × (get_elem? ends e.ring ≡ some both) × (e.core ≡ who_does both e.action)
 
 -- of these steps those of one core, in order
 abbrev pub steps_of : ℕ → List Entry → List Entry

@@ -5,7 +5,7 @@ use std::alloc::Global;
 use std::collections::LinkedList;
 
 /// What a core did at a ring.
-pub enum Deed {
+pub enum Action {
     /// It put this letter into it.
     Put(u64),
     /// It would have put a letter, and there was no room.
@@ -22,12 +22,12 @@ pub enum Deed {
 pub struct Entry {
     pub core: u64,
     pub ring: u64,
-    pub deed: Deed,
+    pub action: Action,
 }
 
 /// The core that puts letters into a ring, and the one that takes them.
 #[derive(Drop)]
-pub struct Wire {
+pub struct RingEnds {
     pub writer: usize,
     pub reader: usize,
 }
@@ -47,7 +47,7 @@ pub struct CoreView {
     /// How many slots each ring has.
     pub slots: u64,
     /// Who writes and reads each ring.
-    pub wires: LinkedList<Wire>,
+    pub ends: LinkedList<RingEnds>,
     /// What it did, in order.
     pub steps: LinkedList<Entry>,
     pub knows: Insight,
@@ -63,18 +63,18 @@ pub struct SeatView {
 pub struct Plan {
     pub slots: usize,
     pub cores: usize,
-    pub wires: Vec<Wire>,
+    pub ends: Vec<RingEnds>,
 }
 
 /// What holds of the table at every moment.
 pub struct RingsRule;
 
 impl TableRule<(), SeatView, Plan> for RingsRule {
-    ghost use Rattle.fl_history_rings.specs.Rule.{RingsHold, opening_view};
+    ghost use Rattle.fl_history_rings.specs.Rule.{RingsHold, first_view};
 
-    ghost holds = { λ plan. RingsHold plan.slots plan.wires.items };
+    ghost holds = { λ plan. RingsHold plan.slots plan.ends.items };
 
-    ghost first = { λ plan. opening_view plan.slots plan.wires.items plan.cores };
+    ghost first = { λ plan. first_view plan.slots plan.ends.items plan.cores };
 }
 
 pub(crate) type RingsTable = Table<(), SeatView, Plan, RingsRule, Global>;

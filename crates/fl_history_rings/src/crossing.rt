@@ -1,12 +1,12 @@
 //! Two cores with a ring each way, in two threads, each of which takes before it puts.
 
 ghost use Rattle.std.specs.Prelude.{◌≡◌, ◌≢◌, ◌<◌, [], IfOk, IfSome, IsNone, MatchBool, MatchResult};
-ghost use Rattle.fl_history_rings.specs.Cores.{GoesOn, TookFirst, IsPairOpening, AreNewPair, next_core, without_next};
+ghost use Rattle.fl_history_rings.specs.Cores.{GoesOn, TookFirst, IsPairLeft, AreNewPair, next_core, without_next};
 
-use crate::board::Wire;
+use crate::board::RingEnds;
 use crate::gathering::Gathering;
-use crate::law::law_someone_finds_nothing_first;
-use crate::making::{Opening, rings};
+use crate::law::law_not_all_begin_by_finding;
+use crate::making::{CoresLeft, rings};
 use crate::one_core::Core;
 use std::alloc::{AllocError, Global};
 use std::thread::{Threads, join};
@@ -18,31 +18,32 @@ use std::thread::{Threads, join};
 pub fn pair(alloc: Global, slots: usize) -> Result<(Core, Core), AllocError>
     requires slots { 0 < slots }
     ensures pair { IfOk result (λ cores. AreNewPair cores.0 cores.1) }
+    ensures slots { IfOk result (λ cores. cores.0.slots ≡ slots) }
 {
-    let mut wires = Vec::new(alloc);
-    let Ok(()) = wires.push(Wire {
+    let mut ends = Vec::new(alloc);
+    let Ok(()) = ends.push(RingEnds {
         writer: 0,
         reader: 1,
     }) else {
         return Err(AllocError);
     };
-    let Ok(()) = wires.push(Wire {
+    let Ok(()) = ends.push(RingEnds {
         writer: 1,
         reader: 0,
     }) else {
         return Err(AllocError);
     };
-    let Ok(opening) = rings(alloc, slots, wires, 2) else {
+    let Ok(left) = rings(alloc, slots, ends, 2) else {
         return Err(AllocError);
     };
-    cores_of(alloc, opening)
+    cores_of(alloc, left)
 }
 
 // The next core.
-fn next_of(opening: &mut Opening, alloc: Global) -> Result<Core, AllocError>
-    ensures core { IfOk result (λ core. (core ≡ next_core opening.old) × (opening.new ≡ without_next opening.old)) }
+pub(crate) fn next_of(left: &mut CoresLeft, alloc: Global) -> Result<Core, AllocError>
+    ensures core { IfOk result (λ core. (core ≡ next_core left.old) × (left.new ≡ without_next left.old)) }
 {
-    let Ok(given) = opening.core(alloc) else {
+    let Ok(given) = left.core(alloc) else {
         return Err(AllocError);
     };
     let Some(core) = given else {
@@ -52,14 +53,15 @@ fn next_of(opening: &mut Opening, alloc: Global) -> Result<Core, AllocError>
 }
 
 // Its first two cores.
-fn cores_of(alloc: Global, mut opening: Opening) -> Result<(Core, Core), AllocError>
-    requires pair { IsPairOpening opening }
+fn cores_of(alloc: Global, mut left: CoresLeft) -> Result<(Core, Core), AllocError>
+    requires pair { IsPairLeft left }
     ensures pair { IfOk result (λ cores. AreNewPair cores.0 cores.1) }
+    ensures slots { IfOk result (λ cores. cores.0.slots ≡ left.slots) }
 {
-    let Ok(one) = next_of(&mut opening, alloc) else {
+    let Ok(one) = next_of(&mut left, alloc) else {
         return Err(AllocError);
     };
-    let Ok(two) = next_of(&mut opening, alloc) else {
+    let Ok(two) = next_of(&mut left, alloc) else {
         return Err(AllocError);
     };
     Ok((one, two))
@@ -120,6 +122,6 @@ pub fn take_before_they_put<R: Threads + Sync>(
     let mut all = Gathering::of(one);
     all.add(two);
     all.settle();
-    law_someone_finds_nothing_first();
+    law_not_all_begin_by_finding();
     (first, second)
 }

@@ -64,7 +64,7 @@ impl Gathering {
 
     /// All that these cores did, at all rings, has one order.
     pub fn settle(self)
-        ensures order { InOneOrder self.slots self.wires self.cores }
+        ensures order { InOneOrder self.slots self.ends self.cores }
     {
         let Gathering { board, mut seat } = self;
         board.table.shared.load::<Compare>(&mut seat, 0);

@@ -1,9 +1,9 @@
 //! What one order of all steps at all rings rules out: a law, as the contract of a function that does nothing.
 
-ghost use Rattle.fl_history_rings.specs.Cores.{SomeoneFindsNothingFirst};
+ghost use Rattle.fl_history_rings.specs.Cores.{NotAllBeginByFinding};
 
-/// It never happens that every core begins with a step that finds a letter. No fact about one ring by itself rules
-/// that out.
-pub fn law_someone_finds_nothing_first()
-    ensures first { SomeoneFindsNothingFirst }
+/// Where the writers and readers of all rings are gathered, it never happens that each gathered core begins with a step
+/// that finds a letter. No fact about one ring by itself rules that out.
+pub fn law_not_all_begin_by_finding()
+    ensures first { NotAllBeginByFinding }
 {}

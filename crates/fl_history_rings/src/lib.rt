@@ -5,7 +5,7 @@
 //! steps at all its rings. The rule of the table (`specs/Rule.antt`) says that there is a list of all steps so far, at
 //! any ring; a core knows the steps that it made itself.
 //!
-//! Contract for the layers above: [`rings`], [`Opening`], [`Core`] and [`Gathering`]. Once cores are together again,
+//! Contract for the layers above: [`rings`], [`CoresLeft`], [`Core`] and [`Gathering`]. Once cores are together again,
 //! there is one order of all that they did, at all rings, in which each take finds the letter that stands first in its
 //! ring (`InOneOrder` of `specs/Cores.antt`).
 //!
@@ -14,7 +14,7 @@
 //! - `steps.rt`: steps in a row
 //! - `own.rt`: them, with a core's seat and places
 //! - `one_core.rt`: `Core`
-//! - `making.rt`: `rings` and `Opening`
+//! - `making.rt`: `rings` and `CoresLeft`
 //! - `gathering.rt`: `Gathering`
 //! - `law.rt`: what one order of all rings rules out
 //! - `crossing.rt`: two threads that show it
@@ -32,9 +32,9 @@ mod steps;
 #[cfg(test)]
 mod tests;
 
-pub use board::Wire;
+pub use board::RingEnds;
 pub use crossing::{pair, take_before_they_put};
 pub use gathering::Gathering;
-pub use law::law_someone_finds_nothing_first;
-pub use making::{Opening, rings};
+pub use law::law_not_all_begin_by_finding;
+pub use making::{CoresLeft, rings};
 pub use one_core::{Core, Foreign};

@@ -1,10 +1,10 @@
 //! Rings made, and the cores at them given out.
 
 ghost use Rattle.std.specs.Prelude.{◌≡◌, ◌+◌, ◌*◌, ◌<◌, ◌≤◌, [], IfOk, IfSome, OnErr, MatchOption};
-ghost use Rattle.fl_history_rings.specs.Rule.{opening_view};
-ghost use Rattle.fl_history_rings.specs.Cores.{IsLaid, new_opening, next_core, without_next};
+ghost use Rattle.fl_history_rings.specs.Rule.{first_view};
+ghost use Rattle.fl_history_rings.specs.Cores.{IsLaid, all_left, next_core, without_next};
 
-use crate::board::{Board, Own, Plan, RingsSeat, RingsTable, Wire};
+use crate::board::{Board, Own, Plan, RingsSeat, RingsTable, RingEnds};
 use crate::one_core::Core;
 use crate::plays::PartCores;
 use std::alloc::{AllocError, Global};
@@ -13,37 +13,37 @@ use std::sync::Arc;
 
 /// The cores at the rings of a table that aren't given out yet.
 #[derive(Drop)]
-pub struct Opening {
+pub struct CoresLeft {
     pub(crate) board: Arc<Board, Global>,
     pub(crate) seat: RingsSeat,
     pub(crate) next: usize,
 }
 
-impl Model for Opening {
+impl Model for CoresLeft {
     ghost use Rattle.std.specs.Arc.{arc_value};
-    ghost use Rattle.fl_history_rings.specs.Cores.{TheOpening, opening_shown, IsOpening};
+    ghost use Rattle.fl_history_rings.specs.Cores.{TheCoresLeft, left_shown, AreLeft};
 
-    ghost Value = { TheOpening };
+    ghost Value = { TheCoresLeft };
 
-    ghost view = { λ s. opening_shown (arc_value s.board) s.seat s.next };
+    ghost view = { λ s. left_shown (arc_value s.board) s.seat s.next };
 
-    ghost invariant = { λ s. IsOpening (arc_value s.board) s.seat s.next };
+    ghost invariant = { λ s. AreLeft (arc_value s.board) s.seat s.next };
 }
 
-/// New rings of so many slots each, all empty, wired so, and so many cores at them.
+/// New rings of so many slots each, all empty, each with its two ends, and so many cores at them.
 ///
 /// # Errors
 /// Out of memory.
 pub fn rings(
     alloc: Global,
     slots: usize,
-    wires: Vec<Wire>,
+    ends: Vec<RingEnds>,
     cores: usize,
-) -> Result<Opening, AllocError>
+) -> Result<CoresLeft, AllocError>
     requires slots { 0 < slots }
-    ensures opening { IfOk result (λ opening. opening ≡ new_opening opening.table slots wires.items cores) }
+    ensures left { IfOk result (λ left. left ≡ all_left left.table slots ends.items cores) }
 {
-    let Some(count) = words_of(wires.len(), slots) else {
+    let Some(count) = words_of(ends.len(), slots) else {
         return Err(AllocError);
     };
     let Ok(words) = vec![in alloc; 0; count] else {
@@ -52,12 +52,12 @@ pub fn rings(
     let plan = Plan {
         slots,
         cores,
-        wires,
+        ends,
     };
     let Ok((table, seat)) = RingsTable::of_words(alloc, words.as_slice(), &plan) else {
         return Err(AllocError);
     };
-    opening_of(alloc, table, seat, plan)
+    cores_left(alloc, table, seat, plan)
 }
 
 // How many words the table of so many rings has.
@@ -68,42 +68,42 @@ fn words_of(rings: usize, slots: usize) -> Option<usize>
 }
 
 // The cores at the rings of a new table.
-fn opening_of(
+fn cores_left(
     alloc: Global,
     table: RingsTable,
     seat: RingsSeat,
     plan: Plan,
-) -> Result<Opening, AllocError>
+) -> Result<CoresLeft, AllocError>
     requires table { (seat.table_id ≡ table.shared.table_id) × (table.shared.key ≡ plan) × IsLaid table.shared.table_id plan }
-    requires seat { seat.me ≡ (opening_view plan.slots plan.wires.items plan.cores, []) }
-    ensures opening { IfOk result (λ opening. opening ≡ new_opening opening.table plan.slots plan.wires.items plan.cores) }
+    requires seat { seat.me ≡ (first_view plan.slots plan.ends.items plan.cores, []) }
+    ensures left { IfOk result (λ left. left ≡ all_left left.table plan.slots plan.ends.items plan.cores) }
 {
     let Ok(board) = Arc::new(alloc, Board { table, plan }) else {
         return Err(AllocError);
     };
-    let opening = Opening {
+    let left = CoresLeft {
         board,
         seat,
         next: 0,
     };
-    Ok(opening)
+    Ok(left)
 }
 
-impl Opening {
+impl CoresLeft {
     /// The next core, with its seat; `None` once all are given out.
     ///
     /// # Errors
     /// Out of memory: the core isn't given out.
     pub fn core(&mut self, alloc: Global) -> Result<Option<Core>, AllocError>
         ensures given { IfOk result (λ given. MatchOption given ((self.new ≡ self.old) × (self.old.cores ≤ self.old.next))
-            (λ core. (core ≡ next_core self.old) × (self.new ≡ without_next self.old))) }
+            (λ core. (self.old.next < self.old.cores) × (core ≡ next_core self.old) × (self.new ≡ without_next self.old))) }
         ensures kept { OnErr result (self.new ≡ self.old) }
     {
         let plan = &self.board.plan;
         if self.next >= plan.cores {
             return Ok(None);
         }
-        let rings = plan.wires.len();
+        let rings = plan.ends.len();
         let Ok(puts) = vec![in alloc; 0; rings] else {
             return Err(AllocError);
         };

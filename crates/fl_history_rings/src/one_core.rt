@@ -1,8 +1,8 @@
 //! A core at the rings.
 
-ghost use Rattle.std.specs.Prelude.{◌≡◌, ◌≢◌, MatchBool, MatchOption, MatchResult};
+ghost use Rattle.std.specs.Prelude.{◌≡◌, ◌≢◌, IfOk, IfSome, MatchBool, MatchOption, MatchResult};
 ghost use Rattle.fl_history_rings.specs.Cores.{noting, Writes, Reads};
-ghost use Rattle.fl_history_rings.specs.declared.board.Deed.TheVariants.{Put, Full, Found, Missed, Freed};
+ghost use Rattle.fl_history_rings.specs.declared.board.Action.TheVariants.{Put, Full, Found, Missed, Freed};
 
 use crate::board::{Board, Own};
 use crate::own::{is_reader, is_writer};
@@ -44,12 +44,12 @@ impl Core {
         ensures noted { MatchResult result
             (λ put. MatchBool put (self.new ≡ noting self.old ring (Put letter)) (self.new ≡ noting self.old ring Full))
             (λ _. self.new ≡ self.old) }
-        ensures own { MatchResult result (λ _. Writes self.old.wires ring self.old.number)
-            (λ _. ¬ (Writes self.old.wires ring self.old.number)) }
+        ensures own { MatchResult result (λ _. Writes self.old.ends ring self.old.number)
+            (λ _. ¬ (Writes self.old.ends ring self.old.number)) }
         ensures table { self.new.table ≡ self.old.table }
     {
         let plan = &self.board.plan;
-        if !is_writer(plan.wires.as_slice(), ring, self.own.number) {
+        if !is_writer(plan.ends.as_slice(), ring, self.own.number) {
             return Err(Foreign);
         }
         let slots = plan.slots;
@@ -66,12 +66,13 @@ impl Core {
             (λ found. MatchOption found (self.new ≡ noting self.old ring Missed)
             (λ letter. self.new ≡ noting (noting self.old ring (Found letter)) ring Freed))
             (λ _. self.new ≡ self.old) }
-        ensures own { MatchResult result (λ _. Reads self.old.wires ring self.old.number)
-            (λ _. ¬ (Reads self.old.wires ring self.old.number)) }
+        ensures own { MatchResult result (λ _. Reads self.old.ends ring self.old.number)
+            (λ _. ¬ (Reads self.old.ends ring self.old.number)) }
+        ensures some { IfOk result (λ found. IfSome found (λ letter. letter ≢ 0)) }
         ensures table { self.new.table ≡ self.old.table }
     {
         let plan = &self.board.plan;
-        if !is_reader(plan.wires.as_slice(), ring, self.own.number) {
+        if !is_reader(plan.ends.as_slice(), ring, self.own.number) {
             return Err(Foreign);
         }
         let slots = plan.slots;

@@ -1,32 +1,32 @@
 //! A core's steps, with its seat and its places.
 
-ghost use Rattle.std.specs.Prelude.{◌≡◌, ◌≢◌, ◌+◌, ◌%◌, ◌<◌, ℕ, true, false, MatchBool, MatchOption};
+ghost use Rattle.std.specs.Prelude.{◌≡◌, ◌≢◌, ◌+◌, ◌%◌, ◌<◌, ℕ, true, false, IfSome, MatchBool, MatchOption};
 ghost use Rattle.fl_history_rings.specs.Cores.{IsOwn, Writes, Reads, core_shown, noting};
-ghost use Rattle.fl_history_rings.specs.declared.board.Deed.TheVariants.{Put, Full, Found, Missed, Freed};
+ghost use Rattle.fl_history_rings.specs.declared.board.Action.TheVariants.{Put, Full, Found, Missed, Freed};
 
-use crate::board::{Own, RingsShared, Wire};
+use crate::board::{Own, RingsShared, RingEnds};
 use crate::steps::{put_letter, take_letter};
 
 // Whether this core puts letters into that ring.
-pub(crate) fn is_writer(wires: &[Wire], ring: usize, core: usize) -> bool
-    ensures yes { result ≡ true → Writes wires.now ring core }
-    ensures no { result ≡ false → ¬ (Writes wires.now ring core) }
+pub(crate) fn is_writer(ends: &[RingEnds], ring: usize, core: usize) -> bool
+    ensures yes { result ≡ true → Writes ends.now ring core }
+    ensures no { result ≡ false → ¬ (Writes ends.now ring core) }
 {
-    let Some(wire) = wires.get(ring) else {
+    let Some(both) = ends.get(ring) else {
         return false;
     };
-    wire.writer == core
+    both.writer == core
 }
 
 // Whether this core takes letters from that ring.
-pub(crate) fn is_reader(wires: &[Wire], ring: usize, core: usize) -> bool
-    ensures yes { result ≡ true → Reads wires.now ring core }
-    ensures no { result ≡ false → ¬ (Reads wires.now ring core) }
+pub(crate) fn is_reader(ends: &[RingEnds], ring: usize, core: usize) -> bool
+    ensures yes { result ≡ true → Reads ends.now ring core }
+    ensures no { result ≡ false → ¬ (Reads ends.now ring core) }
 {
-    let Some(wire) = wires.get(ring) else {
+    let Some(both) = ends.get(ring) else {
         return false;
     };
-    wire.reader == core
+    both.reader == core
 }
 
 // The place behind this one, of so many that go round.
@@ -46,7 +46,7 @@ impl Own {
     pub(crate) fn put(&mut self, top: &RingsShared, slots: usize, ring: usize, letter: u64) -> bool
         requires own { IsOwn top.now.table_id top.now.key self.old }
         requires slots { slots ≡ top.now.key.slots }
-        requires mine { Writes top.now.key.wires.items ring self.old.number }
+        requires mine { Writes top.now.key.ends.items ring self.old.number }
         requires letter { letter ≢ 0 }
         ensures own { IsOwn top.now.table_id top.now.key self.new }
         ensures noted { MatchBool result (core_shown self.new.seat ≡ noting (core_shown self.old.seat) ring (Put letter))
@@ -64,10 +64,11 @@ impl Own {
     pub(crate) fn take(&mut self, top: &RingsShared, slots: usize, ring: usize) -> Option<u64>
         requires own { IsOwn top.now.table_id top.now.key self.old }
         requires slots { slots ≡ top.now.key.slots }
-        requires mine { Reads top.now.key.wires.items ring self.old.number }
+        requires mine { Reads top.now.key.ends.items ring self.old.number }
         ensures own { IsOwn top.now.table_id top.now.key self.new }
         ensures noted { MatchOption result (core_shown self.new.seat ≡ noting (core_shown self.old.seat) ring Missed)
             (λ letter. core_shown self.new.seat ≡ noting (noting (core_shown self.old.seat) ring (Found letter)) ring Freed) }
+        ensures some { IfSome result (λ letter. letter ≢ 0) }
     {
         let place = self.takes[ring];
         let Some(found) = take_letter(top, &mut self.seat, slots, ring, place) else {

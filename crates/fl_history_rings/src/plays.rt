@@ -1,6 +1,6 @@
 //! The kinds of step on the table, and what each tells its core.
 
-ghost use Rattle.fl_history_rings.specs.Rule.{looks_for_room, stores_letter, looks_for_letter, frees, compares};
+ghost use Rattle.fl_history_rings.specs.Rule.{looks_for_room, stores_letter, looks_for_letter, frees_slot, compares};
 ghost use Rattle.fl_history_rings.specs.Rule.{without_first, first_alone, both_of, nobody};
 
 use crate::board::SeatView;
@@ -31,7 +31,7 @@ impl Play<(), SeatView> for LookForLetter {
 pub(crate) struct FreeSlot;
 
 impl Play<(), SeatView> for FreeSlot {
-    ghost then = { frees };
+    ghost then = { frees_slot };
 }
 
 /// The first core's seat is cut off, and two seats are joined to one.

@@ -1,9 +1,9 @@
 //! Steps of one core in a row: a letter put, a letter taken.
 
-ghost use Rattle.std.specs.Prelude.{◌≡◌, ◌≢◌, ◌%◌, MatchBool, MatchOption};
+ghost use Rattle.std.specs.Prelude.{◌≡◌, ◌≢◌, ◌%◌, IfSome, MatchBool, MatchOption};
 ghost use Rattle.fl_history_rings.specs.Cores.{IsSeated, Writes, Reads, number_at, steps_at, core_shown, noting};
 ghost use Rattle.fl_history_rings.specs.Rule.{puts_at, finds_at, frees_at};
-ghost use Rattle.fl_history_rings.specs.declared.board.Deed.TheVariants.{Put, Full, Found, Missed, Freed};
+ghost use Rattle.fl_history_rings.specs.declared.board.Action.TheVariants.{Put, Full, Found, Missed, Freed};
 
 use crate::board::{RingsSeat, RingsShared};
 use crate::plays::{FreeSlot, LookForLetter, LookForRoom, StoreLetter};
@@ -19,7 +19,7 @@ pub(crate) fn put_letter(
 ) -> bool
     requires seated { IsSeated top.now.table_id top.now.key seat.old }
     requires slots { slots ≡ top.now.key.slots }
-    requires mine { Writes top.now.key.wires.items ring (number_at seat.old) }
+    requires mine { Writes top.now.key.ends.items ring (number_at seat.old) }
     requires place { place ≡ puts_at ring (steps_at seat.old) % slots }
     requires letter { letter ≢ 0 }
     ensures seated { IsSeated top.now.table_id top.now.key seat.new }
@@ -45,12 +45,13 @@ pub(crate) fn take_letter(
 ) -> Option<u64>
     requires seated { IsSeated top.now.table_id top.now.key seat.old }
     requires slots { slots ≡ top.now.key.slots }
-    requires mine { Reads top.now.key.wires.items ring (number_at seat.old) }
+    requires mine { Reads top.now.key.ends.items ring (number_at seat.old) }
     requires place { place ≡ finds_at ring (steps_at seat.old) % slots }
     requires quiet { frees_at ring (steps_at seat.old) ≡ finds_at ring (steps_at seat.old) }
     ensures seated { IsSeated top.now.table_id top.now.key seat.new }
     ensures noted { MatchOption result (core_shown seat.new ≡ noting (core_shown seat.old) ring Missed)
         (λ letter. core_shown seat.new ≡ noting (noting (core_shown seat.old) ring (Found letter)) ring Freed) }
+    ensures some { IfSome result (λ letter. letter ≢ 0) }
 {
     let word = ring * slots + place;
     let found = top.load::<LookForLetter>(seat, word);

@@ -1,13 +1,25 @@
 //! Tests of each call, in one thread and in two.
+//!
+//! `rt try --test --fail-alloc N` runs each with its Nth allocation refused: then `letters_come_out_in_order` has to pass, and
+//! others end with out of memory or pass.
 
 ghost use Rattle.std.specs.Prelude.{◌≡◌, ◌≢◌};
+ghost use Rattle.fl_history_rings.specs.Cores.{TheCore};
 
 use super::*;
+use crate::crossing::next_of;
 use std::alloc::{AllocError, Global};
+use std::hint::spin_loop;
 use std::test::Fail;
-use std::thread::{Threads, join};
+use std::thread::{Threads, join, yield_now};
 
-const ROUNDS: u64 = 2_000;
+const ROUNDS: u32 = 5_000;
+
+// How often a core looks for a letter that it waits for, and how many of these looks come one behind another: from then on
+// it lets other threads run.
+const LOOKS: u32 = 10_000_000;
+
+const QUICK_LOOKS: u32 = 1_000;
 
 fn puts(core: &mut Core, ring: usize, letter: u64) -> bool
     requires { letter ≢ 0 }
@@ -25,102 +37,78 @@ fn takes(core: &mut Core, ring: usize) -> Option<u64>
     found
 }
 
+// Whether letters come out in order where there is room for two, and at no ring of others.
+fn come_in_order(mut one: Core, mut two: Core) -> bool {
+    puts(&mut one, 0, 7)
+        && puts(&mut one, 0, 8)
+        && !puts(&mut one, 0, 9)
+        && takes(&mut two, 0) == Some(7)
+        && puts(&mut one, 0, 9)
+        && takes(&mut two, 0) == Some(8)
+        && takes(&mut two, 0) == Some(9)
+        && takes(&mut two, 0).is_none()
+        && one.put(1, 7).is_err()
+        && one.take(2).is_err()
+}
+
+// The same of new cores; where there is no memory for them, there are none.
+fn come_in_order_or_not_at_all(alloc: Global) -> bool {
+    match pair(alloc, 2) {
+        Ok((one, two)) => come_in_order(one, two),
+        Err(_no_memory) => true,
+    }
+}
+
 #[test]
-fn letters_come_out_in_order(rt: HostRuntime) -> Result<(), Fail> {
-    let (mut one, mut two) = pair(rt.alloc(), 2)?;
-    let put = (
-        puts(&mut one, 0, 7),
-        puts(&mut one, 0, 8),
-        puts(&mut one, 0, 9),
-    );
-    let first = takes(&mut two, 0);
-    let again = puts(&mut one, 0, 9);
-    let others = (takes(&mut two, 0), takes(&mut two, 0), takes(&mut two, 0));
-    let across = takes(&mut one, 1);
-    assert!(rt; put == (true, true, false) && first == Some(7) && again);
-    assert!(rt; others == (Some(8), Some(9), None) && across.is_none());
-    let mut all = Gathering::of(one);
+fn letters_come_out_in_order(rt: HostRuntime) {
+    assert!(rt; come_in_order_or_not_at_all(rt.alloc()));
+}
+
+#[test]
+fn memory_is_refused(rt: HostRuntime) {
+    assert!(rt; pair(rt.alloc(), 1 << 50).is_err());
+}
+
+// Core 0 puts into two rings, and core 2 takes from two.
+fn three(alloc: Global) -> Result<CoresLeft, AllocError> {
+    let mut ends = Vec::new(alloc);
+    ends.push(RingEnds {
+        writer: 0,
+        reader: 1,
+    })?;
+    ends.push(RingEnds {
+        writer: 1,
+        reader: 2,
+    })?;
+    ends.push(RingEnds {
+        writer: 0,
+        reader: 2,
+    })?;
+    rings(alloc, 3, ends, 3)
+}
+
+// Whether a letter goes on from core to core, and one goes straight there. All that was done has one order.
+fn pass_on(mut zero: Core, mut one: Core, mut two: Core) -> bool
+    requires { (one.table ≡ zero.table) × (two.table ≡ zero.table) }
+{
+    let put = (puts(&mut zero, 0, 5), puts(&mut zero, 2, 6));
+    let on = (takes(&mut one, 0), puts(&mut one, 1, 7));
+    let came = (takes(&mut two, 1), takes(&mut two, 2), takes(&mut two, 1));
+    let mut all = Gathering::of(zero);
+    all.add(one);
     all.add(two);
     all.settle();
-    Ok(())
+    put == (true, true) && on == (Some(5), true) && came == (Some(7), Some(6), None)
 }
 
 #[test]
-fn a_ring_is_its_two_cores_alone(rt: HostRuntime) -> Result<(), Fail> {
-    let (mut one, _) = pair(rt.alloc(), 2)?;
-    let back = one.put(1, 7).is_err();
-    let none_there = one.put(2, 7).is_err();
-    let own = one.take(0).is_err();
-    let beyond = one.take(2).is_err();
-    assert!(rt; back && none_there && own && beyond);
-    Ok(())
-}
-
-// Puts the next letter, if there is room, and says which is next then.
-fn put_next(core: &mut Core, ring: usize, next: u64) -> u64
-    requires { next ≢ 0 }
-    ensures some { result ≢ 0 }
-    ensures table { core.new.table ≡ core.old.table }
-{
-    if next <= ROUNDS && puts(core, ring, next) {
-        return next + 1;
-    }
-    next
-}
-
-// Takes the next letter, if it is there, and says which is next then: 0 if it isn't the one due.
-fn take_next(core: &mut Core, ring: usize, next: u64) -> u64
-    ensures { core.new.table ≡ core.old.table }
-{
-    let Some(letter) = takes(core, ring) else {
-        return next;
-    };
-    if letter == next && next <= ROUNDS {
-        return next + 1;
-    }
-    0
-}
-
-// Puts letters from 1 on into one ring and takes from another, and says which are next.
-fn exchange(mut core: Core, to: usize, from: usize) -> (Core, u64, u64)
-    ensures { result.0.table ≡ core.table }
-{
-    let mut put = 1;
-    let mut took = 1;
-    for _ in 0..ROUNDS {
-        put = put_next(&mut core, to, put);
-        took = take_next(&mut core, from, took);
-    }
-    (core, put, took)
-}
-
-// Two threads at once, and then what is left is taken in one.
-fn both_ways<R: Threads + Sync>(rt: &R, one: Core, two: Core) -> bool
-    requires { two.table ≡ one.table }
-{
-    let ((mut one, there, back_taken), (mut two, back, there_taken)) = join(
-        rt,
-        move || -> (Core, u64, u64)
-            ensures { result.0.table ≡ one.table }
-        { exchange(one, 0, 1) },
-        move || -> (Core, u64, u64)
-            ensures { result.0.table ≡ two.table }
-        { exchange(two, 1, 0) },
-    );
-    let back_taken = take_next(&mut one, 1, back_taken);
-    let back_taken = take_next(&mut one, 1, back_taken);
-    let there_taken = take_next(&mut two, 0, there_taken);
-    let there_taken = take_next(&mut two, 0, there_taken);
-    let mut all = Gathering::of(one);
-    all.add(two);
-    all.settle();
-    there == there_taken && back == back_taken
-}
-
-#[test]
-fn two_threads_take_in_order(rt: HostRuntime) -> Result<(), Fail> {
-    let (one, two) = pair(rt.alloc(), 2)?;
-    assert!(rt; both_ways(&rt, one, two));
+fn three_cores_are_gathered(rt: HostRuntime) -> Result<(), Fail> {
+    let mut left = three(rt.alloc())?;
+    let zero = next_of(&mut left, rt.alloc())?;
+    let one = next_of(&mut left, rt.alloc())?;
+    let two = next_of(&mut left, rt.alloc())?;
+    let none_left = left.core(rt.alloc())?.is_none();
+    assert!(rt; none_left && pass_on(zero, one, two));
     Ok(())
 }
 
@@ -132,41 +120,81 @@ fn two_threads_do_not_both_find_a_letter(rt: HostRuntime) -> Result<(), Fail> {
     Ok(())
 }
 
-// Core 0 puts into two rings, and core 2 takes from two.
-fn three(alloc: Global) -> Result<Opening, AllocError> {
-    let mut wires = Vec::new(alloc);
-    wires.push(Wire {
-        writer: 0,
-        reader: 1,
-    })?;
-    wires.push(Wire {
-        writer: 1,
-        reader: 2,
-    })?;
-    wires.push(Wire {
-        writer: 0,
-        reader: 2,
-    })?;
-    rings(alloc, 3, wires, 3)
+// Looks until a letter is there.
+fn wait_for(core: &mut Core, ring: usize) -> Option<u64>
+    ensures { core.new.table ≡ core.old.table }
+{
+    for look in 0..LOOKS {
+        let found = takes(core, ring);
+        if found.is_some() {
+            return found;
+        }
+        if look < QUICK_LOOKS {
+            spin_loop();
+        } else {
+            yield_now();
+        }
+    }
+    None
 }
 
-fn next_of(opening: &mut Opening, alloc: Global) -> Result<Core, AllocError> {
-    let Some(core) = opening.core(alloc)? else {
-        return Err(AllocError);
-    };
-    Ok(core)
+// Puts a letter, and only then takes the other's, for which it waits. Whether the first look found none stands beside it.
+fn put_then_take(core: &mut Core, to: usize, from: usize, letter: u64) -> (bool, Option<u64>)
+    requires { letter ≢ 0 }
+    ensures { core.new.table ≡ core.old.table }
+{
+    let _ = puts(core, to, letter);
+    let first = takes(core, from);
+    if first.is_some() {
+        return (false, first);
+    }
+    (true, wait_for(core, from))
+}
+
+// The letter says whether the first look of the round before found none.
+fn letter_of(missed: bool) -> u64
+    ensures { result ≢ 0 }
+{
+    if missed { 2 } else { 1 }
+}
+
+// In each round both cores put and then take, and none goes on before both have. It says whether in each round one of the
+// two found a letter at once: one order of all steps wants it.
+fn never_both_miss(mut core: Core, to: usize, from: usize) -> (Core, bool)
+    ensures { result.0.table ≡ core.table }
+{
+    let mut missed = false;
+    for _ in 0..ROUNDS {
+        let (misses, letter) = put_then_take(&mut core, to, from, letter_of(missed));
+        if letter.is_none() || (missed && letter == Some(2)) {
+            return (core, false);
+        }
+        missed = misses;
+    }
+    (core, true)
+}
+
+fn meet<R: Threads + Sync>(rt: &R, one: Core, two: Core) -> bool
+    requires { two.table ≡ one.table }
+{
+    let ((one, here), (two, there)) = join(
+        rt,
+        move || -> (Core, bool)
+            ensures { result.0.table ≡ one.table }
+        { never_both_miss(one, 0, 1) },
+        move || -> (Core, bool)
+            ensures { result.0.table ≡ two.table }
+        { never_both_miss(two, 1, 0) },
+    );
+    let mut all = Gathering::of(one);
+    all.add(two);
+    all.settle();
+    here && there
 }
 
 #[test]
-fn a_core_has_one_seat_at_all_its_rings(rt: HostRuntime) -> Result<(), Fail> {
-    let mut opening = three(rt.alloc())?;
-    let mut first = next_of(&mut opening, rt.alloc())?;
-    let mut one = next_of(&mut opening, rt.alloc())?;
-    let mut two = next_of(&mut opening, rt.alloc())?;
-    let none_left = opening.core(rt.alloc())?.is_none();
-    let put = puts(&mut first, 0, 5) && puts(&mut first, 2, 6);
-    let on = takes(&mut one, 0) == Some(5) && puts(&mut one, 1, 7);
-    let took = (takes(&mut two, 1), takes(&mut two, 2), takes(&mut two, 1));
-    assert!(rt; none_left && put && on && took == (Some(7), Some(6), None));
+fn two_threads_that_put_and_then_take_never_both_miss(rt: HostRuntime) -> Result<(), Fail> {
+    let (one, two) = pair(rt.alloc(), 2)?;
+    assert!(rt; meet(&rt, one, two));
     Ok(())
 }

@@ -11,7 +11,7 @@ returns g c =
     let one = c.join-one.result.0.0 in
     let two = c.join-one.result.1.0 in
     let all = c.add.ensures.more ∙ ap (λ (x : TheGathering). with_core x two) c.of-all.ensures.one in
-    let order = subst (λ (x : TheGathering). InOneOrder x.slots x.wires x.cores) all c.settle.ensures.order in
+    let order = subst (λ (x : TheGathering). InOneOrder x.slots x.ends x.cores) all c.settle.ensures.order in
     record {
-      not_both = not_both_find one.slots one.wires one two c.join-one.result.0.1 c.join-one.result.1.1 order (first.0.wires_are ∙ new.wires_are) (first.0.number_is ∙ new.one_is) (second.0.number_is ∙ new.two_is) first.1 second.1;
+      not_both = not_both_find one.slots one.ends one two c.join-one.result.0.1 c.join-one.result.1.1 order (first.0.ends_are ∙ new.ends_are) (first.0.number_is ∙ new.one_is) (second.0.number_is ∙ new.two_is) first.1 second.1;
     }

@@ -1,5 +1,5 @@
 use Rattle.std.proofs.Common.{◌≡◌, ◌+◌, ◌*◌, ◌∙◌, refl, arith}
-use Rattle.fl_history_rings.specs.declared.board.Deed.TheVariants.{Put, Full}
+use Rattle.fl_history_rings.specs.declared.board.Action.TheVariants.{Put, Full}
 use Rattle.fl_history_rings.specs.declared.board.Insight.TheVariants.{Room}
 use Rattle.fl_history_rings.specs.declared.board.CoreView.{CoreView}
 use Rattle.fl_history_rings.specs.declared.board.Plan.{Plan}
@@ -28,7 +28,7 @@ load-found-requires c =
     let h : CoreView = rest_of plan c.args.seat.now in (
       s.same,
       word_fits c.args.top.now.table_id c.args.top.now.key c.args.ring c.requires.mine.0 c.args.slots c.args.place (puts_at c.args.ring (steps_at c.args.seat.now)) s.laid c.requires.mine.1 c.requires.slots c.requires.place,
-      allows_room plan.slots plan.wires.items _ _ c.args.ring c.requires.mine.0 c.requires.mine.1 _ h c.args.seat.now.me s.resting refl c.requires.mine.2
+      allows_room plan.slots plan.ends.items _ _ c.args.ring c.requires.mine.0 c.requires.mine.1 _ h c.args.seat.now.me s.resting refl c.requires.mine.2
           (word_is c.args.ring c.args.slots c.args.place plan.slots (puts_at c.args.ring (steps_at c.args.seat.now)) c.requires.slots c.requires.place),
     )
 
@@ -43,7 +43,7 @@ store-requires c =
     let room = after_room h c.args.seat.now.me c.load-found.new.seat.me (c.args.ring * c.args.slots + c.args.place) c.args.ring s.resting here c.load-found.result c.load-found.ensures.2 none in (
       c.load-found.ensures.0 ∙ s.same,
       word_fits c.args.top.now.table_id c.args.top.now.key c.args.ring c.requires.mine.0 c.args.slots c.args.place (puts_at c.args.ring (steps_at c.args.seat.now)) s.laid c.requires.mine.1 c.requires.slots c.requires.place,
-      allows_put plan.slots plan.wires.items _ _ c.args.ring c.requires.mine.0 c.requires.mine.1 c.args.letter c.requires.letter _ (knowing h (Room c.args.ring)) c.load-found.new.seat.me room refl c.requires.mine.2 refl word,
+      allows_put plan.slots plan.ends.items _ _ c.args.ring c.requires.mine.0 c.requires.mine.1 c.args.letter c.requires.letter _ (knowing h (Room c.args.ring)) c.load-found.new.seat.me room refl c.requires.mine.2 refl word,
     )
 
 pub returns-then-found-ne0 : goal.returns-then-found-ne0

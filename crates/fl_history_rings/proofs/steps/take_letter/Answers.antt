@@ -1,8 +1,8 @@
 use Rattle.std.proofs.Common.{◌+◌, ◌*◌, ◌∙◌, refl, arith}
-use Rattle.fl_history_rings.specs.declared.board.Deed.TheVariants.{Found, Missed, Freed}
+use Rattle.fl_history_rings.specs.declared.board.Action.TheVariants.{Found, Missed, Freed}
 use Rattle.fl_history_rings.specs.declared.board.CoreView.{CoreView}
 use Rattle.fl_history_rings.specs.declared.board.Plan.{Plan}
-use Rattle.fl_history_rings.specs.Rule.{with_deed, finds_at}
+use Rattle.fl_history_rings.specs.Rule.{with_action, finds_at}
 use Rattle.fl_history_rings.specs.Cores.{number_at, steps_at}
 use Rattle.fl_history_rings.proofs.Allowed.{allows_look, allows_free}
 use Rattle.fl_history_rings.proofs.Seats.{word_is, word_fits, ring_here, rest_of, did_once, did_twice, found_counts, freed_word, after_missed, after_found, after_freed}
@@ -27,7 +27,7 @@ load-found-requires c =
     let h : CoreView = rest_of plan c.args.seat.now in (
       s.same,
       word_fits c.args.top.now.table_id c.args.top.now.key c.args.ring c.requires.mine.0 c.args.slots c.args.place (finds_at c.args.ring (steps_at c.args.seat.now)) s.laid c.requires.mine.1 c.requires.slots c.requires.place,
-      allows_look plan.slots plan.wires.items _ _ c.args.ring c.requires.mine.0 c.requires.mine.1 _ h c.args.seat.now.me s.resting refl c.requires.mine.2 c.requires.quiet
+      allows_look plan.slots plan.ends.items _ _ c.args.ring c.requires.mine.0 c.requires.mine.1 _ h c.args.seat.now.me s.resting refl c.requires.mine.2 c.requires.quiet
           (word_is c.args.ring c.args.slots c.args.place plan.slots (finds_at c.args.ring (steps_at c.args.seat.now)) c.requires.slots c.requires.place),
     )
 
@@ -39,13 +39,13 @@ store-requires c =
     let h : CoreView = rest_of plan old in
     let word = word_is c.args.ring c.args.slots c.args.place plan.slots (finds_at c.args.ring (steps_at old)) c.requires.slots c.requires.place in
     let here = ring_here plan.slots c.args.ring (c.args.ring * c.args.slots + c.args.place) (finds_at c.args.ring (steps_at c.args.seat.now)) s.laid.some_slots word in
-    let has : CoreView = with_deed h c.args.ring (Found c.load-found.result) in
+    let has : CoreView = with_action h c.args.ring (Found c.load-found.result) in
     let found = after_found h old.me c.load-found.new.seat.me (c.args.ring * c.args.slots + c.args.place) c.args.ring s.resting here c.load-found.result c.load-found.ensures.2 c.if-found-eq0.false in
     let counts = found_counts (steps_at old) (number_at old) c.args.ring c.load-found.result in
     let quiet = c.requires.quiet in (
       c.load-found.ensures.0 ∙ s.same,
       word_fits c.args.top.now.table_id c.args.top.now.key c.args.ring c.requires.mine.0 c.args.slots c.args.place (finds_at c.args.ring (steps_at c.args.seat.now)) s.laid c.requires.mine.1 c.requires.slots c.requires.place,
-      allows_free plan.slots plan.wires.items _ _ c.args.ring c.requires.mine.0 c.requires.mine.1 _ has c.load-found.new.seat.me found refl c.requires.mine.2 (omega (arith, counts.0, counts.1, quiet))
+      allows_free plan.slots plan.ends.items _ _ c.args.ring c.requires.mine.0 c.requires.mine.1 _ has c.load-found.new.seat.me found refl c.requires.mine.2 (omega (arith, counts.0, counts.1, quiet))
           (freed_word c.args.ring plan.slots _ _ _ word (counts.0 ∙ quiet)),
     )
 
@@ -68,7 +68,7 @@ returns c =
     let h : CoreView = rest_of plan old in
     let word = word_is c.args.ring c.args.slots c.args.place plan.slots (finds_at c.args.ring (steps_at old)) c.requires.slots c.requires.place in
     let here = ring_here plan.slots c.args.ring (c.args.ring * c.args.slots + c.args.place) (finds_at c.args.ring (steps_at c.args.seat.now)) s.laid.some_slots word in
-    let has : CoreView = with_deed h c.args.ring (Found c.load-found.result) in
+    let has : CoreView = with_action h c.args.ring (Found c.load-found.result) in
     let found = after_found h old.me c.load-found.new.seat.me (c.args.ring * c.args.slots + c.args.place) c.args.ring s.resting here c.load-found.result c.load-found.ensures.2 c.if-found-eq0.false in
     let freed = after_freed has c.load-found.new.seat.me c.store.new.seat.me (c.args.ring * c.args.slots + c.args.place) c.args.ring found here c.store.ensures.2 in
     let did = did_twice _ plan old c.store.new.seat s (c.store.ensures.0 ∙ c.load-found.ensures.0) c.args.ring (Found c.load-found.result) Freed freed in

@@ -16,7 +16,7 @@ join_seat-requires c =
       ap (λ (x : TheCore). x.table) c.core.view_is ∙ (c.requires.table ∙ (ap (λ (g : TheGathering). g.table) (sym c.self.view_is) ∙ same)),
       ap (λ (m : Seated). m.1) s.resting,
       subst (λ (b : Board). 0 < b.table.shared.table_id.words) (sym c.deref.ensures) c.self.invariant.some_words,
-      rings_join (key_of c.deref.result.now).slots (key_of c.deref.result.now).wires.items _ _ _ _ (rest_of (key_of (arc_value c.core.inside.board)) c.core.inside.own.seat) (ap (λ (m : Seated). m.0) s.resting),
+      rings_join (key_of c.deref.result.now).slots (key_of c.deref.result.now).ends.items _ _ _ _ (rest_of (key_of (arc_value c.core.inside.board)) c.core.inside.own.seat) (ap (λ (m : Seated). m.0) s.resting),
     )
 
 pub invariant_of-self : goal.invariant_of-self

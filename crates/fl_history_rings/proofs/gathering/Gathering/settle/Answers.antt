@@ -14,4 +14,4 @@ load-requires c =
 pub returns : goal.returns
 returns c =
     let seat = c.self.inside.seat in
-    record { order = subst (λ (g : TheGathering). InOneOrder g.slots g.wires g.cores) c.self.view_is (settled _ _ seat.table_id seat.me.0.cores c.load.ensures.2.1) }
+    record { order = subst (λ (g : TheGathering). InOneOrder g.slots g.ends g.cores) c.self.view_is (settled _ _ seat.table_id seat.me.0.cores c.load.ensures.2.1) }

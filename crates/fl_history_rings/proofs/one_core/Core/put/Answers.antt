@@ -1,9 +1,9 @@
 use Rattle.std.proofs.Common.{◌≡◌, subst, sym, refl, MatchBool}
 use Rattle.std.specs.Arc.{arc_value}
 use Rattle.fl_history_rings.specs.declared.board.Board.{Board}
-use Rattle.fl_history_rings.specs.declared.board.Deed.TheVariants.{Put, Full}
+use Rattle.fl_history_rings.specs.declared.board.Action.TheVariants.{Put, Full}
 use Rattle.fl_history_rings.specs.Cores.{TheCore, IsOwn, core_shown, noting}
-use Rattle.fl_history_rings.proofs.Seats.{core_wires, core_slots, key_wires, shown_number, writes_alike}
+use Rattle.fl_history_rings.proofs.Seats.{core_ends, core_slots, key_ends, shown_number, writes_alike}
 use Rattle.fl_history_rings.proofs.Pairs.{put_goes_on}
 use Rattle.fl_history_rings.proofs.one_core.Core.put.Goals as goal
 
@@ -11,8 +11,8 @@ pub returns-then-not-is_writer-clause-own : goal.returns-then-not-is_writer-clau
 returns-then-not-is_writer-clause-own c = λ mine.
     let board : Board = arc_value c.self.inside.board in
     c.is_writer.ensures.no c.if-not-is_writer.true
-    (writes_alike c.args.self.now.wires c.as_slice.result.now c.args.ring c.args.self.now.number c.self.inside.own.number
-    (core_wires board c.deref.result.now c.self.inside.own c.args.self.now c.as_slice.result.now c.self.invariant c.self.view_is c.deref.ensures c.as_slice.ensures.value)
+    (writes_alike c.args.self.now.ends c.as_slice.result.now c.args.ring c.args.self.now.number c.self.inside.own.number
+    (core_ends board c.deref.result.now c.self.inside.own c.args.self.now c.as_slice.result.now c.self.invariant c.self.view_is c.deref.ensures c.as_slice.ensures.value)
     (shown_number _ _ c.self.inside.own c.args.self.now c.self.invariant.own_is c.self.view_is) mine)
 
 pub put-requires-clause-own : goal.put-requires-clause-own
@@ -23,8 +23,8 @@ put-requires-clause-slots c = core_slots (arc_value c.self.inside.board) c.deref
 
 pub put-requires-clause-mine : goal.put-requires-clause-mine
 put-requires-clause-mine c =
-    writes_alike c.as_slice.result.now c.deref-2.result.now.table.shared.key.wires.items c.args.ring c.self.inside.own.number c.self.inside.own.number
-    (key_wires (arc_value c.self.inside.board) c.deref.result.now c.deref-2.result.now c.as_slice.result.now c.self.invariant.plan_is c.deref.ensures c.deref-2.ensures c.as_slice.ensures.value)
+    writes_alike c.as_slice.result.now c.deref-2.result.now.table.shared.key.ends.items c.args.ring c.self.inside.own.number c.self.inside.own.number
+    (key_ends (arc_value c.self.inside.board) c.deref.result.now c.deref-2.result.now c.as_slice.result.now c.self.invariant.plan_is c.deref.ensures c.deref-2.ensures c.as_slice.ensures.value)
     refl (c.is_writer.ensures.yes c.if-not-is_writer.false)
 
 pub invariant_of-self : goal.invariant_of-self
@@ -36,8 +36,8 @@ invariant_of-self c = record {
 pub returns-clause-own : goal.returns-clause-own
 returns-clause-own c =
     let board : Board = arc_value c.self.inside.board in
-    writes_alike c.as_slice.result.now c.args.self.now.wires c.args.ring c.self.inside.own.number c.args.self.now.number
-    (sym (core_wires board c.deref.result.now c.self.inside.own c.args.self.now c.as_slice.result.now c.self.invariant c.self.view_is c.deref.ensures c.as_slice.ensures.value))
+    writes_alike c.as_slice.result.now c.args.self.now.ends c.args.ring c.self.inside.own.number c.args.self.now.number
+    (sym (core_ends board c.deref.result.now c.self.inside.own c.args.self.now c.as_slice.result.now c.self.invariant c.self.view_is c.deref.ensures c.as_slice.ensures.value))
     (sym (shown_number _ _ c.self.inside.own c.args.self.now c.self.invariant.own_is c.self.view_is)) (c.is_writer.ensures.yes c.if-not-is_writer.false)
 
 noted : (c : goal.After-put) → MatchBool c.put.result (core_shown c.put.new.self.seat ≡ noting c.args.self.now c.args.ring (Put c.args.letter)) (core_shown c.put.new.self.seat ≡ noting c.args.self.now c.args.ring Full)

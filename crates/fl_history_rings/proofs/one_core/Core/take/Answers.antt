@@ -1,9 +1,9 @@
 use Rattle.std.proofs.Common.{◌≡◌, subst, sym, refl, MatchOption}
 use Rattle.std.specs.Arc.{arc_value}
 use Rattle.fl_history_rings.specs.declared.board.Board.{Board}
-use Rattle.fl_history_rings.specs.declared.board.Deed.TheVariants.{Found, Missed, Freed}
+use Rattle.fl_history_rings.specs.declared.board.Action.TheVariants.{Found, Missed, Freed}
 use Rattle.fl_history_rings.specs.Cores.{TheCore, IsOwn, core_shown, noting}
-use Rattle.fl_history_rings.proofs.Seats.{core_wires, core_slots, key_wires, shown_number, reads_alike}
+use Rattle.fl_history_rings.proofs.Seats.{core_ends, core_slots, key_ends, shown_number, reads_alike}
 use Rattle.fl_history_rings.proofs.Pairs.{took_on}
 use Rattle.fl_history_rings.proofs.one_core.Core.take.Goals as goal
 
@@ -11,8 +11,8 @@ pub returns-then-not-is_reader-clause-own : goal.returns-then-not-is_reader-clau
 returns-then-not-is_reader-clause-own c = λ mine.
     let board : Board = arc_value c.self.inside.board in
     c.is_reader.ensures.no c.if-not-is_reader.true
-    (reads_alike c.args.self.now.wires c.as_slice.result.now c.args.ring c.args.self.now.number c.self.inside.own.number
-    (core_wires board c.deref.result.now c.self.inside.own c.args.self.now c.as_slice.result.now c.self.invariant c.self.view_is c.deref.ensures c.as_slice.ensures.value)
+    (reads_alike c.args.self.now.ends c.as_slice.result.now c.args.ring c.args.self.now.number c.self.inside.own.number
+    (core_ends board c.deref.result.now c.self.inside.own c.args.self.now c.as_slice.result.now c.self.invariant c.self.view_is c.deref.ensures c.as_slice.ensures.value)
     (shown_number _ _ c.self.inside.own c.args.self.now c.self.invariant.own_is c.self.view_is) mine)
 
 pub take-requires-clause-own : goal.take-requires-clause-own
@@ -23,8 +23,8 @@ take-requires-clause-slots c = core_slots (arc_value c.self.inside.board) c.dere
 
 pub take-requires-clause-mine : goal.take-requires-clause-mine
 take-requires-clause-mine c =
-    reads_alike c.as_slice.result.now c.deref-2.result.now.table.shared.key.wires.items c.args.ring c.self.inside.own.number c.self.inside.own.number
-    (key_wires (arc_value c.self.inside.board) c.deref.result.now c.deref-2.result.now c.as_slice.result.now c.self.invariant.plan_is c.deref.ensures c.deref-2.ensures c.as_slice.ensures.value)
+    reads_alike c.as_slice.result.now c.deref-2.result.now.table.shared.key.ends.items c.args.ring c.self.inside.own.number c.self.inside.own.number
+    (key_ends (arc_value c.self.inside.board) c.deref.result.now c.deref-2.result.now c.as_slice.result.now c.self.invariant.plan_is c.deref.ensures c.deref-2.ensures c.as_slice.ensures.value)
     refl (c.is_reader.ensures.yes c.if-not-is_reader.false)
 
 pub invariant_of-self : goal.invariant_of-self
@@ -36,8 +36,8 @@ invariant_of-self c = record {
 pub returns-clause-own : goal.returns-clause-own
 returns-clause-own c =
     let board : Board = arc_value c.self.inside.board in
-    reads_alike c.as_slice.result.now c.args.self.now.wires c.args.ring c.self.inside.own.number c.args.self.now.number
-    (sym (core_wires board c.deref.result.now c.self.inside.own c.args.self.now c.as_slice.result.now c.self.invariant c.self.view_is c.deref.ensures c.as_slice.ensures.value))
+    reads_alike c.as_slice.result.now c.args.self.now.ends c.args.ring c.self.inside.own.number c.args.self.now.number
+    (sym (core_ends board c.deref.result.now c.self.inside.own c.args.self.now c.as_slice.result.now c.self.invariant c.self.view_is c.deref.ensures c.as_slice.ensures.value))
     (sym (shown_number _ _ c.self.inside.own c.args.self.now c.self.invariant.own_is c.self.view_is)) (c.is_reader.ensures.yes c.if-not-is_reader.false)
 
 noted : (c : goal.After-take) → MatchOption c.take.result (core_shown c.take.new.self.seat ≡ noting c.args.self.now c.args.ring Missed) (λ letter. core_shown c.take.new.self.seat ≡ noting (noting c.args.self.now c.args.ring (Found letter)) c.args.ring Freed)

@@ -8,7 +8,7 @@ use Rattle.fl_history_rings.specs.Rule.{RingsHold, without_first, first_alone}
 use Rattle.fl_history_rings.specs.Cores.{key_of, IsWhole}
 use Rattle.fl_history_rings.proofs.Makes.{rings_split}
 use Rattle.fl_history_rings.proofs.Seats.{some_left, waits_there, given_out, left_over, core_new}
-use Rattle.fl_history_rings.proofs.making.Opening.core.Goals as goal
+use Rattle.fl_history_rings.proofs.making.CoresLeft.core.Goals as goal
 
 pub split_seat-seat-requires : goal.split_seat-seat-requires
 split_seat-seat-requires c =
@@ -23,8 +23,8 @@ split_seat-seat-requires c =
     let left = some_left board c.deref.result.now next c.deref.ensures inv.plan_is c.if-self-plan.false in (
       inv.same ∙ ap (λ (b : Board). b.table.shared.table_id) there,
       subst (λ (b : Board). 0 < b.table.shared.table_id.words) there words,
-      subst (λ (b : Board). Splits (RingsHold b.table.shared.key.slots b.table.shared.key.wires.items) seat.id seat.me.0 (without_first seat.me.0) (first_alone seat.me.0)) there
-          (rings_split key.slots key.wires.items seat.id next (key.cores - (next + 1)) seat.me.0 (waits_there key.slots key.wires.items key.cores next seat.me left inv.waiting)),
+      subst (λ (b : Board). Splits (RingsHold b.table.shared.key.slots b.table.shared.key.ends.items) seat.id seat.me.0 (without_first seat.me.0) (first_alone seat.me.0)) there
+          (rings_split key.slots key.ends.items seat.id next (key.cores - (next + 1)) seat.me.0 (waits_there key.slots key.ends.items key.cores next seat.me left inv.waiting)),
     )
 
 pub invariant_of-core : goal.invariant_of-core
@@ -35,16 +35,16 @@ invariant_of-core c =
     let seat = c.self.inside.seat in
     let next : ℕ = c.self.inside.next in
     let left = some_left board c.deref.result.now next c.deref.ensures inv.plan_is c.if-self-plan.false in
-    let lists : length c.deref.result.now.plan.wires.items ≡ length key.wires.items =
-    ap (λ (b : Board). length b.plan.wires.items) c.deref.ensures ∙ ap (λ (p : Plan). length p.wires.items) (sym inv.plan_is) in
-    let many : c.len-rings.result ≡ length key.wires.items = omega (arith, c.len-rings.ensures, c.deref.result.now.plan.wires.ok.0, lists) in
+    let lists : length c.deref.result.now.plan.ends.items ≡ length key.ends.items =
+    ap (λ (b : Board). length b.plan.ends.items) c.deref.ensures ∙ ap (λ (p : Plan). length p.ends.items) (sym inv.plan_is) in
+    let many : c.len-rings.result ≡ length key.ends.items = omega (arith, c.len-rings.ensures, c.deref.result.now.plan.ends.ok.0, lists) in
     let puts : c.in-Ok.puts.items ≡ replicate c.len-rings.result 0 = search rules in
     let takes : c.in-Ok-vec.takes.items ≡ replicate c.len-rings.result 0 = search rules in
     let split = c.split_seat-seat.ensures in
     let own : Own = record { seat = c.split_seat-seat.result; number = next; puts = c.in-Ok.puts; takes = c.in-Ok-vec.takes } in
     subst (λ (b : Board). IsWhole b own) (sym c.in-Ok-try_clone.ensures) (record {
       own_is = core_new board.table.shared.table_id key c.split_seat-seat.result next c.in-Ok.puts.items c.in-Ok-vec.takes.items inv.laid (split.3 ∙ inv.same)
-          (given_out key.slots key.wires.items key.cores next seat.me left inv.waiting c.split_seat-seat.result.me split.4) (puts ∙ ap (λ (n : ℕ). replicate n 0) many) (takes ∙ ap (λ (n : ℕ). replicate n 0) many);
+          (given_out key.slots key.ends.items key.cores next seat.me left inv.waiting c.split_seat-seat.result.me split.4) (puts ∙ ap (λ (n : ℕ). replicate n 0) many) (takes ∙ ap (λ (n : ℕ). replicate n 0) many);
       plan_is = inv.plan_is;
     })
 
@@ -62,5 +62,5 @@ invariant_of-self c =
       laid = inv.laid;
       plan_is = inv.plan_is;
       within = omega (arith, left);
-      waiting = left_over key.slots key.wires.items key.cores next seat.me left inv.waiting c.split_seat-seat.new.seat.me split.2;
+      waiting = left_over key.slots key.ends.items key.cores next seat.me left inv.waiting c.split_seat-seat.new.seat.me split.2;
     }
