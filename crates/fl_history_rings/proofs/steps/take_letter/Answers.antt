@@ -58,7 +58,7 @@ returns-then-found-eq0 c =
     let here = ring_here plan.slots c.args.ring (c.args.ring * c.args.slots + c.args.place) (finds_at c.args.ring (steps_at c.args.seat.now)) s.laid.some_slots word in
     let missed = after_missed h c.args.seat.now.me c.load-found.new.seat.me (c.args.ring * c.args.slots + c.args.place) c.args.ring s.resting here c.load-found.result c.load-found.ensures.2 c.if-found-eq0.true in
     let did = did_once _ plan c.args.seat.now c.load-found.new.seat s c.load-found.ensures.0 c.args.ring Missed missed in
-    record { seated = did.0; noted = did.1 }
+    record { seated = did.0; noted = did.1; some = tt }
 
 pub returns : goal.returns
 returns c =
@@ -72,4 +72,4 @@ returns c =
     let found = after_found h old.me c.load-found.new.seat.me (c.args.ring * c.args.slots + c.args.place) c.args.ring s.resting here c.load-found.result c.load-found.ensures.2 c.if-found-eq0.false in
     let freed = after_freed has c.load-found.new.seat.me c.store.new.seat.me (c.args.ring * c.args.slots + c.args.place) c.args.ring found here c.store.ensures.2 in
     let did = did_twice _ plan old c.store.new.seat s (c.store.ensures.0 ∙ c.load-found.ensures.0) c.args.ring (Found c.load-found.result) Freed freed in
-    record { seated = did.0; noted = did.1 }
+    record { seated = did.0; noted = did.1; some = c.if-found-eq0.false }

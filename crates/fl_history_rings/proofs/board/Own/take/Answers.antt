@@ -36,6 +36,7 @@ returns-in_default c =
     record {
       own = core_idle c.args.top.now.table_id c.args.top.now.key own.seat c.take_letter.new.seat own.number own.puts.items own.takes.items c.requires.own c.take_letter.ensures.seated c.args.ring Missed refl refl refl noted;
       noted = noted;
+      some = tt;
     }
 
 pub place_after-requires : goal.place_after-requires
@@ -63,4 +64,5 @@ returns c =
       own = core_took c.args.top.now.table_id c.args.top.now.key own.seat c.take_letter.new.seat own.number own.puts.items own.takes.items c.requires.own c.take_letter.ensures.seated c.args.ring c.in-Some.found c.place_after.result
           (reads_low c.args.top.now.key.ends.items c.args.ring c.args.self.now.number c.requires.mine) (next ∙ ap (λ x. (finds_at c.args.ring (steps_at own.seat) + 1) % x) (sym same)) noted;
       noted = noted;
+      some = c.in-Some.ensures.some;
     }

@@ -1,4 +1,0 @@
--- The promises rest on these.
-pub mod Mailboxes
-pub mod Rule
-pub mod Hands
