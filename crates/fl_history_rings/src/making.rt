@@ -4,7 +4,7 @@ ghost use Rattle.std.specs.Prelude.{◌≡◌, ◌+◌, ◌*◌, ◌<◌, ◌≤
 ghost use Rattle.fl_history_rings.specs.Rule.{first_view};
 ghost use Rattle.fl_history_rings.specs.Cores.{IsLaid, all_left, next_core, without_next};
 
-use crate::board::{Board, Own, Plan, RingsSeat, RingsTable, RingEnds};
+use crate::board::{Board, Own, Plan, RingEnds, RingsSeat, RingsTable};
 use crate::one_core::Core;
 use crate::plays::PartCores;
 use std::alloc::{AllocError, Global};
@@ -49,11 +49,7 @@ pub fn rings(
     let Ok(words) = vec![in alloc; 0; count] else {
         return Err(AllocError);
     };
-    let plan = Plan {
-        slots,
-        cores,
-        ends,
-    };
+    let plan = Plan { slots, cores, ends };
     let Ok((table, seat)) = RingsTable::of_words(alloc, words.as_slice(), &plan) else {
         return Err(AllocError);
     };

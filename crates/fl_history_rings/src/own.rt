@@ -4,7 +4,7 @@ ghost use Rattle.std.specs.Prelude.{◌≡◌, ◌≢◌, ◌+◌, ◌%◌, ◌<
 ghost use Rattle.fl_history_rings.specs.Cores.{IsOwn, Writes, Reads, core_shown, noting};
 ghost use Rattle.fl_history_rings.specs.declared.board.Action.TheVariants.{Put, Full, Found, Missed, Freed};
 
-use crate::board::{Own, RingsShared, RingEnds};
+use crate::board::{Own, RingEnds, RingsShared};
 use crate::steps::{put_letter, take_letter};
 
 // Whether this core puts letters into that ring.
