@@ -4,7 +4,6 @@
 //! others end with out of memory or pass.
 
 ghost use Rattle.std.specs.Prelude.{◌≡◌, ◌≢◌};
-ghost use Rattle.fl_history_rings.specs.Cores.{TheCore};
 
 use super::*;
 use crate::crossing::next_of;

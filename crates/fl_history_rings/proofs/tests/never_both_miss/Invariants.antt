@@ -1,0 +1,6 @@
+use Rattle.std.proofs.Common.{◌≡◌}
+use Rattle.fl_history_rings.proofs.tests.never_both_miss.Given as goal
+
+-- the core stays the same table's
+abbrev pub invariant-loop : goal.invariant-loop
+invariant-loop l = l.core.table ≡ l.initial.core.table
