@@ -17,7 +17,9 @@ ghost use Rattle.fl_core.specs.contracts.core_job.CoreJob as JobRows;
 ghost use Rattle.fl_core_run.specs.contracts.running.RunningCore as RunningRows;
 ghost use Rattle.fl_cores_fork.specs.contracts.core_thread.CoreThread as CoreThreadRows;
 ghost use Rattle.fl_cores_fork.specs.contracts.core_thread.FinishedCore as DoneRows;
+ghost use Rattle.fl_cores_fork.specs.contracts.pace.Pace as PaceRows;
 
+use crate::pace::Pace;
 use fl_compile::Program;
 use fl_core::CoreJob;
 use fl_core_run::EndProgress;
@@ -124,6 +126,13 @@ pub(crate) fn law_job_shared()
     ensures shared { IsSync JobRows.the_row }
 {
     assert_sync::<CoreJob>();
+}
+
+// And so may their pace.
+pub(crate) fn law_pace_shared()
+    ensures shared { IsSync PaceRows.the_row }
+{
+    assert_sync::<Pace>();
 }
 
 // So may a core with its sides of rings, as a part of a core thread.

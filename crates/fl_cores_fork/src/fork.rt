@@ -13,9 +13,10 @@ ghost use Rattle.fl_cores_fork.specs.declared.no_report.NoReport.TheVariants as 
 ghost use Rattle.fl_cores_fork.specs.CoreThreads.{IsReady, AllReady, CoreThreadRan};
 
 use crate::core_thread::{CoreThread, FinishedCore};
-use crate::crossing::{core_thread_sent, done_sent, law_job_shared};
+use crate::crossing::{core_thread_sent, done_sent, law_job_shared, law_pace_shared};
 use crate::no_report::NoReport;
 use crate::noting::run_thread;
+use crate::pace::{Pace, PacedGate};
 use fl_core::{Core, CoreJob};
 use fl_core_run::{Gate, core_run};
 use fl_cores_table::EndSeat;
@@ -94,11 +95,31 @@ pub(crate) fn run_one<R: Wait, G: Gate>(
     }
 }
 
+// A core's whole run on its thread, in step with the others.
+fn run_paced<R: Wait, G: Gate>(
+    rt: &R,
+    gate: &G,
+    pace: &Pace,
+    core_thread: CoreThread,
+    jobs: &[CoreJob],
+    limit: u64,
+    is_recorded: bool,
+) -> Result<FinishedCore, AllocError>
+    requires ready { IsReady core_thread }
+    ensures ran { IfOk result (λ d. CoreThreadRan jobs.now limit core_thread d) }
+{
+    let gate = PacedGate { gate, pace };
+    let ran = run_thread(rt, &gate, core_thread, jobs, limit, is_recorded);
+    pace.end();
+    ran
+}
+
 // A thread for a core, or none where no thread can be made.
 fn start<'s, 'e: 's, R: Threads + Wait + Sync, G: Gate + Sync>(
     scope: &Scope<'s, &'e ()>,
     rt: &'e R,
     gate: &'e G,
+    pace: &'e Pace,
     core_thread: CoreThread,
     jobs: &'e [CoreJob],
     limit: u64,
@@ -114,6 +135,7 @@ fn start<'s, 'e: 's, R: Threads + Wait + Sync, G: Gate + Sync>(
     core_thread_sent();
     done_sent();
     law_job_shared();
+    law_pace_shared();
     let promise = RunInputs {
         was: Snapshot::of(&core_thread),
         jobs,
@@ -124,7 +146,7 @@ fn start<'s, 'e: 's, R: Threads + Wait + Sync, G: Gate + Sync>(
         requires gate { IsSync G.row }
         requires ready { IsReady core_thread }
         ensures ran { IfOk result (λ d. CoreThreadRan jobs.entry.now limit core_thread d) }
-    { run_thread(rt, gate, core_thread, jobs, limit, is_recorded) };
+    { run_paced(rt, gate, pace, core_thread, jobs, limit, is_recorded) };
     scope.spawn_with(promise, run).ok()
 }
 
@@ -152,6 +174,7 @@ fn run_in<'s, 'e: 's, R: Threads + Wait + Sync, G: Gate + Sync>(
     rt: &'e R,
     alloc: Global,
     gate: &'e G,
+    pace: &'e Pace,
     own: EndSeat,
     todo: Vec<CoreThread>,
     jobs: &'e [CoreJob],
@@ -171,11 +194,12 @@ fn run_in<'s, 'e: 's, R: Threads + Wait + Sync, G: Gate + Sync>(
     let Some(last) = todo.pop() else {
         return (Ok(Vec::new(alloc)), own);
     };
-    let Some(child) = start(scope, rt, gate, last, jobs, limit, is_recorded) else {
+    let Some(child) = start(scope, rt, gate, pace, last, jobs, limit, is_recorded) else {
         own.stop();
+        pace.end();
         return (Err(NoReport::Thread), own);
     };
-    let (rest, own) = run_in(scope, rt, alloc, gate, own, todo, jobs, limit, is_recorded);
+    let (rest, own) = run_in(scope, rt, alloc, gate, pace, own, todo, jobs, limit, is_recorded);
     let last = child.join(rt);
     match rest {
         Ok(rest) => (push_last(rest, last), own),
@@ -201,6 +225,8 @@ pub fn run_each<R: Threads + Wait + Sync, G: Gate + Sync>(
     ensures own { IfOk result.0 (λ _. result.1 ≡ own) }
     ensures told { IfErr result.0 (λ e. e ≡ stop.Thread → result.1.knows.stopped ≡ own.knows.stopped + 1) }
 {
+    let shared = Pace::of(&todo, jobs);
+    let pace = &shared;
     thread::scope(
         thread::scope_env(),
         rt,
@@ -212,6 +238,6 @@ pub fn run_each<R: Threads + Wait + Sync, G: Gate + Sync>(
             ensures each { IfOk result.0 (λ all. AllZip (CoreThreadRan jobs.entry.now limit) todo.items all.items) }
             ensures own { IfOk result.0 (λ _. result.1 ≡ own) }
             ensures told { IfErr result.0 (λ e. e ≡ stop.Thread → result.1.knows.stopped ≡ own.knows.stopped + 1) }
-        { run_in(scope, rt, alloc, gate, own, todo, jobs, limit, is_recorded) },
+        { run_in(scope, rt, alloc, gate, pace, own, todo, jobs, limit, is_recorded) },
     )
 }

@@ -9,6 +9,7 @@
 //! - `fork.rt`: a thread for each core
 //! - `noting.rt`: a core's run over sides that note what they do
 //! - `no_report.rt`: why there is no report
+//! - `pace.rt`: cores over which calls pass both ways keep step
 //! - `telling.rt`: the report
 #![tactic(auto)]
 
@@ -17,6 +18,7 @@ mod crossing;
 mod fork;
 mod no_report;
 mod noting;
+mod pace;
 mod telling;
 
 pub use core_thread::{CoreThread, FinishedCore};
