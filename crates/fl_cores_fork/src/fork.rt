@@ -199,7 +199,18 @@ fn run_in<'s, 'e: 's, R: Threads + Wait + Sync, G: Gate + Sync>(
         pace.end();
         return (Err(NoReport::Thread), own);
     };
-    let (rest, own) = run_in(scope, rt, alloc, gate, pace, own, todo, jobs, limit, is_recorded);
+    let (rest, own) = run_in(
+        scope,
+        rt,
+        alloc,
+        gate,
+        pace,
+        own,
+        todo,
+        jobs,
+        limit,
+        is_recorded,
+    );
     let last = child.join(rt);
     match rest {
         Ok(rest) => (push_last(rest, last), own),
@@ -238,6 +249,19 @@ pub fn run_each<R: Threads + Wait + Sync, G: Gate + Sync>(
             ensures each { IfOk result.0 (λ all. AllZip (CoreThreadRan jobs.entry.now limit) todo.items all.items) }
             ensures own { IfOk result.0 (λ _. result.1 ≡ own) }
             ensures told { IfErr result.0 (λ e. e ≡ stop.Thread → result.1.knows.stopped ≡ own.knows.stopped + 1) }
-        { run_in(scope, rt, alloc, gate, pace, own, todo, jobs, limit, is_recorded) },
+        {
+            run_in(
+                scope,
+                rt,
+                alloc,
+                gate,
+                pace,
+                own,
+                todo,
+                jobs,
+                limit,
+                is_recorded,
+            )
+        },
     )
 }
