@@ -147,6 +147,31 @@ handle q.s line(\"the shell has started\")
 complete
 ";
 
+// Bindings are told in byte order of their names: B, ab, b.
+const NAMES: &[u8] = b"\
+idl
+interface i { message a(uint32 v); message b(string s); }
+.
+disp d 0
+disp e 0
+export s e i
+bind b d i s local 4
+bind ab d i s local 4
+bind B d i s local 4
+call b.c a(0)
+call ab.c a(1)
+call ab.s a(10)
+call B.s b(\"x\\\"\\xff\")
+";
+
+const NAMES_REPORT: &[u8] = b"\
+handle B.c b(\"x\\\"\\xff\")
+handle ab.c a(10)
+handle ab.s a(1)
+handle b.s a(0)
+complete
+";
+
 const WRONG: &[u8] = b"\
 # turns 8: an end that has a reply rule makes no calls of its own
 idl
@@ -221,6 +246,7 @@ const FILES: &[(&[u8], &str, u8, &[u8], &[u8])] = &[
     (ECHO, MANY, 0, ECHO_REPORT, b""),
     (HOPS, MANY, 0, HOPS_REPORT, b""),
     (RACE, MANY, 0, RACE_REPORT, b""),
+    (NAMES, MANY, 0, NAMES_REPORT, b""),
     (WRONG, "8", 2, WRONG_REPORT, WRONG_RULE),
     (
         b"disp d 0\nwrite p.c\n",

@@ -10,15 +10,6 @@ use std::thread;
 // How often a gate looks again.
 const LOOKS: u64 = 2_000_000;
 
-// The core of one of the first three numbers.
-fn place(core: CoreId) -> usize {
-    match core.0 {
-        0 => 0,
-        1 => 1,
-        _ => 2,
-    }
-}
-
 /// A gate that is always open.
 pub struct NoGate;
 
@@ -65,78 +56,56 @@ impl<'a, R: Abort> Waiting<'a, R> {
     }
 }
 
-/// Three cores take turns one after another: 0, 1, 2, 0, and so on. The last of them to finish leaves without asking for a turn, so the wait for it runs out.
-/// The others have finished by then too, and leave after the turn for which they wait: a wait that ran out any earlier fails the test.
-#[derive(Drop)]
-pub struct LockStep<'a, R: Abort> {
-    wait: Waiting<'a, R>,
-    // how many turns of each core were begun, and how many of all have ended
-    begun: [AtomicCell<u64>; 3],
-    ended: AtomicCell<u64>,
-}
-
-impl<'a, R: Abort> LockStep<'a, R> {
-    pub fn new(rt: &'a R) -> LockStep<'a, R> {
-        LockStep {
-            wait: Waiting::new(rt),
-            begun: [AtomicCell::new(0), AtomicCell::new(0), AtomicCell::new(0)],
-            ended: AtomicCell::new(0),
-        }
-    }
-}
-
-impl<'a, R: Abort> Gate for LockStep<'a, R> {
-    fn before_turn(&self, core: CoreId) {
-        self.wait.ask();
-        let place = place(core);
-        let Some(begun) = self.begun.get(place) else {
-            return;
-        };
-        let turns = begun.fetch_add(1);
-        if turns > 0 {
-            self.ended.fetch_add(1);
-        }
-        let before = turns.saturating_mul(3).saturating_add(place as u64);
-        self.wait.until(&self.ended, before);
-    }
-}
-
-/// Cores 0 and 1 wait for one another before their first turns; then all take turns one after another.
+/// Cores 0 and 1 wait for one another before their first turns, core 2 for core 0; then the three take turns one after
+/// another: 0, 1, 2, 0, and so on. The last of them to finish leaves without asking for a turn, so the wait for it runs out.
+/// The others have finished by then too, and leave after the turn for which they wait: a wait that ran out any earlier fails
+/// the test.
 #[derive(Drop)]
 pub struct SideBySide<'a, R: Abort> {
+    /// For one another, before their first turns.
     pub wait: Waiting<'a, R>,
+    in_turn: Waiting<'a, R>,
+    // how many turns of each core were begun, and how many of all have ended
     first: AtomicCell<u64>,
     second: AtomicCell<u64>,
-    step: LockStep<'a, R>,
+    third: AtomicCell<u64>,
+    ended: AtomicCell<u64>,
 }
 
 impl<'a, R: Abort> SideBySide<'a, R> {
     pub fn new(rt: &'a R) -> SideBySide<'a, R> {
         SideBySide {
             wait: Waiting::new(rt),
+            in_turn: Waiting::new(rt),
             first: AtomicCell::new(0),
             second: AtomicCell::new(0),
-            step: LockStep::new(rt),
+            third: AtomicCell::new(0),
+            ended: AtomicCell::new(0),
         }
     }
 
-    // A core tells that it came, and waits for the other before its first turn.
-    fn meet(&self, own: &AtomicCell<u64>, other: &AtomicCell<u64>) {
-        if own.fetch_add(1) == 0 {
+    // Begins a turn of a core, and waits for the turns of all cores before it.
+    fn take_turn(&self, place: u64, begun: &AtomicCell<u64>, other: &AtomicCell<u64>) {
+        let turns = begun.fetch_add(1);
+        if turns > 0 {
+            self.ended.fetch_add(1);
+        } else {
             self.wait.until(other, 1);
         }
+        self.in_turn
+            .until(&self.ended, turns.saturating_mul(3).saturating_add(place));
     }
 }
 
 impl<'a, R: Abort> Gate for SideBySide<'a, R> {
     fn before_turn(&self, core: CoreId) {
         self.wait.ask();
+        self.in_turn.ask();
         match core.0 {
-            0 => self.meet(&self.first, &self.second),
-            1 => self.meet(&self.second, &self.first),
-            _ => (),
+            0 => self.take_turn(0, &self.first, &self.second),
+            1 => self.take_turn(1, &self.second, &self.first),
+            _ => self.take_turn(2, &self.third, &self.first),
         }
-        self.step.before_turn(core);
     }
 }
 

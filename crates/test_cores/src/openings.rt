@@ -1,7 +1,7 @@
 //! Bindings that are opened while cores run.
 
 use crate::gates::{Held, NoGate};
-use crate::texts::{add, comes_to};
+use crate::texts::comes_to;
 use fl_cores::CoresEnd;
 use std::alloc::{AllocError, Global};
 use std::test::Fail;
@@ -11,19 +11,14 @@ const MANY: u64 = 1_000_000_000;
 const TWO_CORES: &[u8] =
     b"idl\ninterface i { message ping(uint32 v); }\n.\ncores 2\nlink 0 1 4\ndisp d 0\ndisp e 1\nexport s e i\n";
 
-// Two digits.
-fn digits(number: u64) -> (u64, u64) {
-    (number / 10, number % 10)
-}
-
 // So many bindings between the two cores.
 fn bindings(alloc: Global, count: u64) -> Result<Vec<u8>, AllocError> {
     let mut text = Vec::new(alloc);
-    add(&mut text, TWO_CORES)?;
+    text.extend_from_slice(TWO_CORES)?;
     for number in 0..count {
-        let (tens, ones) = digits(number);
+        let (tens, ones) = (number / 10, number % 10);
         let line = format!(in alloc; "bind p{tens}{ones} d i s hop 0 1\n")?;
-        add(&mut text, line.as_bytes())?;
+        text.extend_from_slice(line.as_bytes())?;
     }
     Ok(text)
 }
@@ -31,13 +26,13 @@ fn bindings(alloc: Global, count: u64) -> Result<Vec<u8>, AllocError> {
 // Appends a call for each of 100 bindings, and the line that tells that it was handled.
 fn add_calls(alloc: Global, text: &mut Vec<u8>, wanted: &mut Vec<u8>) -> Result<(), AllocError> {
     for number in 0..100 {
-        let (tens, ones) = digits(number);
+        let (tens, ones) = (number / 10, number % 10);
         let call = format!(in alloc; "call p{tens}{ones}.c ping({number})\n")?;
-        add(text, call.as_bytes())?;
+        text.extend_from_slice(call.as_bytes())?;
         let line = format!(in alloc; "handle p{tens}{ones}.s ping({number})\n")?;
-        add(wanted, line.as_bytes())?;
+        wanted.extend_from_slice(line.as_bytes())?;
     }
-    add(wanted, b"complete\n")
+    wanted.extend_from_slice(b"complete\n")
 }
 
 // Core 1 begins when core 0 has taken 200 turns: the circuits are asked for before any is answered, and each call waits for its own.

@@ -1,7 +1,7 @@
 //! Whole reports of runs whose schedule is certain: what each end made and handled, which bindings are refused, and
 //! how many turns were counted. They are worked out by hand, by what a turn does (`docs/CORES.md`).
 
-use crate::gates::{LockStep, NoGate};
+use crate::gates::{NoGate, SideBySide};
 use fl_core_run::Gate;
 use fl_cores::{CoresFault, Report, run_cores};
 use fl_cores_file::{CallsByEnd, CoresFile, CoresText, Ending, read_cores_text};
@@ -270,20 +270,17 @@ call q.c echo_call(3)
     ending: Ending::Complete,
 };
 
-fn is_said(call: &Call, said: PlainCall) -> bool {
-    let number = match call.args.first() {
-        Some(Value::Int(number)) => *number,
-        _ => return false,
-    };
-    call.msg.0 == said.0 && call.args.len() == 1 && number == said.1
-}
-
+// Whether these calls are made so, one after another.
 fn are_said(calls: &[Call], said: &[PlainCall]) -> bool {
     if calls.len() != said.len() {
         return false;
     }
-    for (call, said) in calls.iter().zip(said) {
-        if !is_said(call, *said) {
+    for (call, (number, wanted)) in calls.iter().zip(said) {
+        let is_wanted = match call.args.first() {
+            Some(Value::Int(value)) => *value == *wanted,
+            _ => false,
+        };
+        if !is_wanted || call.msg.0 != *number || call.args.len() != 1 {
             return false;
         }
     }
@@ -354,16 +351,14 @@ fn reports<R: Threads + Wait + Sync, G: Gate + Sync>(
 
 #[test]
 fn reports_of_one_core(rt: HostRuntime) -> Result<(), Fail> {
-    for (index, row) in ONE_CORE.iter().enumerate() {
-        if !reports(&rt, rt.alloc(), row, &NoGate)? {
-            return Err(Fail::new(format_args!("row {index}, counted from 0, is wrong")));
-        }
+    for row in ONE_CORE {
+        assert!(rt; reports(&rt, rt.alloc(), row, &NoGate)?);
     }
     Ok(())
 }
 
 #[test]
 fn a_report_of_cores_in_step(rt: HostRuntime) -> Result<(), Fail> {
-    assert!(rt; reports(&rt, rt.alloc(), &ROW, &LockStep::new(&rt))?);
+    assert!(rt; reports(&rt, rt.alloc(), &ROW, &SideBySide::new(&rt))?);
     Ok(())
 }

@@ -1,11 +1,9 @@
 //! Worked examples.
 
-use crate::gates::{Held, LockStep, NoGate, SideBySide};
-use crate::texts::{TextOutcome, add, add_lines, comes_to, run, skip_lines};
+use crate::gates::{Held, NoGate, SideBySide};
+use crate::texts::{TextOutcome, add_lines, comes_to, run, skip_lines};
 use fl_core_run::Gate;
-use fl_cores::{CoresEnd, CoresFault, run_cores};
-use fl_model::{DispatcherId, Event};
-use fl_world::Config;
+use fl_cores::{CoresEnd, CoresFault};
 use std::alloc::{AllocError, Global};
 use std::sync::Wait;
 use std::test::Fail;
@@ -31,70 +29,15 @@ const ROW: &[u8] =
 const BROKEN_ROW: &[u8] =
     b"cores 3\nlink 0 1 4\ndisp d 0\ndisp e 2\nexport s e i\nbind p d i s hop 0 1 2\n";
 
-// Calls that are answered by a rule, over a ring.
-const ECHO: &[u8] = b"idl\ninterface i { rpc echo(in uint32 x, out uint32 y); }\n.\n\
-cores 2\ndisp d 0\ndisp e 1\nexport s e i\nbind p d i s ump 4\nreply p.s echo_call echo_response\n\
-call p.c echo_call(1)\ncall p.c echo_call(2)\ncall p.c echo_call(3)\n";
-
-const ECHOED: &[u8] =
-    b"handle p.c echo_response(1)\nhandle p.c echo_response(2)\nhandle p.c echo_response(3)\n\
-handle p.s echo_call(1)\nhandle p.s echo_call(2)\nhandle p.s echo_call(3)\ncomplete\n";
-
 // Eight lines, of which the last sets a rule.
 const RULED: &[u8] =
     b"idl\ninterface i { message a(uint32 v); }\n.\ndisp d 0\ndisp e 0\nexport s e i\nbind p d i s local 4\nreply p.s a a\n";
 
-const FAULTS: &[(CoresFault, u8)] = &[
-    (
-        CoresFault::Setup {
-            number: 73,
-            place: 4,
-        },
-        73,
-    ),
-    (
-        CoresFault::Job {
-            number: 44,
-            place: 2,
-        },
-        44,
-    ),
-    (CoresFault::Memory, 99),
-    (CoresFault::Thread, 3),
-];
-
-// What two events of a set-up of one core are refused for.
-fn refusal_of<R: Threads + Wait + Sync>(
-    rt: &R,
-    alloc: Global,
-    first: Event<'_>,
-    second: Event<'_>,
-) -> Result<Option<CoresFault>, AllocError> {
-    let mut setup = Vec::new(alloc);
-    setup.push(first)?;
-    setup.push(second)?;
-    let config = Config { cores: 1, setup };
-    match run_cores(rt, alloc, &config, Vec::new(alloc), MANY, &NoGate) {
-        Ok(_) => Ok(None),
-        Err(fault) => Ok(Some(fault)),
-    }
-}
-
-// There is no core 5.
-fn dispatcher() -> Event<'static> {
-    Event::AddDispatcher(5)
-}
-
-// A turn belongs to no set-up.
-fn turn() -> Event<'static> {
-    Event::Turn(DispatcherId { core: 0, place: 0 })
-}
-
 // Two parts of a text.
 fn join(alloc: Global, one: &[u8], two: &[u8]) -> Result<Vec<u8>, AllocError> {
     let mut text = Vec::new(alloc);
-    add(&mut text, one)?;
-    add(&mut text, two)?;
+    text.extend_from_slice(one)?;
+    text.extend_from_slice(two)?;
     Ok(text)
 }
 
@@ -111,7 +54,7 @@ fn all_handled(alloc: Global) -> Result<Vec<u8>, AllocError> {
     let mut text = Vec::new(alloc);
     add_lines(alloc, &mut text, "handle p.c", (100, 200))?;
     add_lines(alloc, &mut text, "handle p.s", (0, 100))?;
-    add(&mut text, b"complete\n")?;
+    text.extend_from_slice(b"complete\n")?;
     Ok(text)
 }
 
@@ -144,16 +87,9 @@ const TWO_HANDLED: &[u8] = b"handle p.s ping(1)\nhandle p.s ping(2)\nturns out\n
 const ALL_HANDLED: &[u8] =
     b"handle p.s ping(1)\nhandle p.s ping(2)\nhandle p.s ping(3)\ncomplete\n";
 
-const ONE_CORE: &[TextRow] = &[
-    TextRow(PINGS, THREE_CALLS, 2, CoresEnd::TurnsOut, TWO_HANDLED),
-    TextRow(PINGS, THREE_CALLS, 3, CoresEnd::Complete, ALL_HANDLED),
+const TEXTS: &[TextRow] = &[
     TextRow(PINGS_ONE, THREE_CALLS, 2, CoresEnd::TurnsOut, TWO_HANDLED),
     TextRow(PINGS_ONE, THREE_CALLS, 3, CoresEnd::Complete, ALL_HANDLED),
-];
-
-const REPLIES: &[TextRow] = &[TextRow(ECHO, b"", MANY, CoresEnd::Complete, ECHOED)];
-
-const REFUSED_LINES: &[TextRow] = &[
     TextRow(
         RULED,
         b"call p.s a(1)\n",
@@ -186,53 +122,11 @@ fn is_so<R: Threads + Wait + Sync>(
     comes_to(rt, alloc, &text, row.2, &NoGate, (row.3, row.4))
 }
 
-// Tells which row is the first that isn't so.
-fn all_are_so<R: Threads + Wait + Sync>(
-    rt: &R,
-    alloc: Global,
-    rows: &[TextRow],
-) -> Result<(), Fail> {
-    for (index, row) in rows.iter().enumerate() {
-        if !is_so(rt, alloc, row)? {
-            return Err(Fail::new(format_args!("row {index}, counted from 0, is wrong")));
-        }
+#[test]
+fn texts_come_to(rt: HostRuntime) -> Result<(), Fail> {
+    for row in TEXTS {
+        assert!(rt; is_so(&rt, rt.alloc(), row)?);
     }
-    Ok(())
-}
-
-#[test]
-fn turns_of_one_core(rt: HostRuntime) -> Result<(), Fail> {
-    all_are_so(&rt, rt.alloc(), ONE_CORE)
-}
-
-#[test]
-fn replies_over_a_ring(rt: HostRuntime) -> Result<(), Fail> {
-    all_are_so(&rt, rt.alloc(), REPLIES)
-}
-
-#[test]
-fn refused_lines(rt: HostRuntime) -> Result<(), Fail> {
-    all_are_so(&rt, rt.alloc(), REFUSED_LINES)
-}
-
-// Whether the first of two events of a set-up is the one that is refused, for the fault of this number.
-fn is_first_refused<R: Threads + Wait + Sync>(
-    rt: &R,
-    alloc: Global,
-    first: Event<'_>,
-    second: Event<'_>,
-    number: u8,
-) -> Result<bool, AllocError> {
-    let refused = CoresFault::Setup { number, place: 1 };
-    Ok(refusal_of(rt, alloc, first, second)? == Some(refused))
-}
-
-#[test]
-fn the_first_event_that_is_refused_is_told(rt: HostRuntime) -> Result<(), Fail> {
-    let alloc = rt.alloc();
-    assert!(rt; is_first_refused(&rt, alloc, dispatcher(), turn(), 73)?);
-    assert!(rt; is_first_refused(&rt, alloc, Event::SetCores(1), dispatcher(), 93)?);
-    assert!(rt; is_first_refused(&rt, alloc, turn(), dispatcher(), 93)?);
     Ok(())
 }
 
@@ -257,7 +151,7 @@ fn no_turns(rt: HostRuntime) -> Result<(), Fail> {
 #[test]
 fn three_cores_in_step(rt: HostRuntime) -> Result<(), Fail> {
     let text = both_ways(rt.alloc(), PINGS_ONE, ROW)?;
-    assert!(rt; handles_all(&rt, rt.alloc(), &text, &LockStep::new(&rt))?);
+    assert!(rt; handles_all(&rt, rt.alloc(), &text, &SideBySide::new(&rt))?);
     Ok(())
 }
 
@@ -318,18 +212,4 @@ fn a_route_without_its_second_link(rt: HostRuntime) -> Result<(), Fail> {
     );
     assert!(rt; comes_to(&rt, rt.alloc(), &text, MANY, &NoGate, wanted)?);
     Ok(())
-}
-
-fn have_numbers(faults: &[(CoresFault, u8)]) -> bool {
-    for (fault, number) in faults {
-        if fault.number() != *number {
-            return false;
-        }
-    }
-    true
-}
-
-#[test]
-fn numbers_of_faults(rt: HostRuntime) {
-    assert!(rt; have_numbers(FAULTS));
 }

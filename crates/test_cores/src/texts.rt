@@ -39,11 +39,6 @@ pub fn comes_to<R: Threads + Wait + Sync, G: Gate + Sync>(
     Ok(outcome.end == wanted.0 && outcome.text.as_slice() == wanted.1)
 }
 
-/// Appends bytes.
-pub fn add(text: &mut Vec<u8>, bytes: &[u8]) -> Result<(), AllocError> {
-    text.extend_from_slice(bytes)
-}
-
 /// Appends a line for each number: a line's start, the number and its end.
 pub fn add_lines(
     alloc: Global,
@@ -53,7 +48,7 @@ pub fn add_lines(
 ) -> Result<(), AllocError> {
     for number in numbers.0..numbers.1 {
         let line = format!(in alloc; "{start} ping({number})\n")?;
-        add(text, line.as_bytes())?;
+        text.extend_from_slice(line.as_bytes())?;
     }
     Ok(())
 }
