@@ -40,6 +40,9 @@ pub fn answer(alloc: Global, bytes: &[u8]) -> Result<u8, AllocError> {
         Ok(program) => program,
         Err(fault) => return Ok(fault.number()),
     };
+    if !is_writable(program.interface()) {
+        return Ok(1);
+    }
     let image = write_image(alloc, &program)?;
     if image.as_slice() == bytes {
         Ok(0)
