@@ -1,12 +1,12 @@
 -- A text stands for one thing.
-use Rattle.std.proofs.Common.{◌≡◌, ◌∙◌, List, ℕ, refl, sym, ap, subst}
+use Rattle.std.proofs.Common.{◌≡◌, ◌∙◌, refl, sym, ap, subst}
 use Rattle.fl_lex.specs.Outcome.{LexOutcome, lexed, lex_fault}
 use Rattle.fl_lex.proofs.Totals as lexing
 use Rattle.fl_lex.proofs.Outcomes as lexings
 use Rattle.fl_parse.specs.Grammar.{ParseOutcome, parsed, parse_fault}
 use Rattle.fl_parse.proofs.Outcomes as parsing
 use Rattle.fl_check.proofs.Firsts as checking
-use Rattle.fl_check.specs.Text.{TextOutcome, text_fault, checked_as, ParsedMeans, LexedMeans, TextMeans, SomeText, OneText}
+use Rattle.fl_check.specs.Text.{TextOutcome, text_fault, checked_as, ParsedMeans, LexedMeans, SomeText, OneText}
 
 some_parsed : (found : ParseOutcome) → (outcome : TextOutcome) × ParsedMeans found outcome
 some_parsed (parse_fault n at) = (text_fault n at, refl)

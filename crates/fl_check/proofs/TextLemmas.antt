@@ -3,7 +3,7 @@ use Rattle.std.proofs.Common.{◌≡◌, ◌∙◌, ℕ, List, sym, ap, subst, O
 use Rattle.std.specs.Prelude.{IfOk, IfSome, Result}
 use Rattle.fl_lex.specs.Token.{TheTokens}
 use Rattle.fl_lex.specs.Outcome as lexing
-use Rattle.fl_lex.specs.Outcome.{LexOutcome, lexed, lex_fault, Lexes}
+use Rattle.fl_lex.specs.Outcome.{lexed, lex_fault, Lexes}
 use Rattle.fl_lex.specs.declared.fault.LexFault.{LexFault}
 use Rattle.fl_parse.specs.Tree.{TheTree}
 use Rattle.fl_parse.specs.Outcome as parsing

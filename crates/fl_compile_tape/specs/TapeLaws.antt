@@ -17,11 +17,12 @@ use Rattle.fl_compile.specs.Programs.{TheProgram}
 -- from the payload of a fitting call, with bytes behind it up to a multiple of 8, steps that mean its message's send code take the
 -- call's packed tape, and leave those bytes
 abbrev pub TakesPackedCalls : Type 0
-TakesPackedCalls = (plan : PlanNo) (i : TheInterface) (m : TheMessage) (c : TheCall) (steps : TheSteps) (after : List ℕ) → HasMessage i c.msg m → fits_of i c ≡ true
+TakesPackedCalls = (plan : PlanNo) (i : TheInterface) (m : TheMessage) (c : TheCall) (steps : TheSteps) (after : List ℕ)
+    → HasMessage i c.msg m → fits_of i c ≡ true
     → Means steps (message_block Send plan m) → (length (payload_of plan i c) + length after) % 8 ≡ 0
     → steps_taken steps (spread_first (payload_of plan i c ++ after)) ≡ spread_of (packed_of plan i c) after
 
--- a fitting call of a message, whose payload stands first among these bytes, a multiple of 8; anything may follow
+-- a fitting call of a message, with whose payload these bytes begin; their number is a multiple of 8
 pub record HasPayload (p : TheProgram) (msg : ℕ) (bytes : List ℕ) (c : TheCall) : Type 0 where
   pub message : c.msg ≡ msg
   pub fits : fits_of p.interface c ≡ true

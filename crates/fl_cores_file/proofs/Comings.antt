@@ -26,7 +26,7 @@ use Rattle.fl_cores_file.specs.declared.stop.CoresLineFault.{CoresLineFault}
 use Rattle.fl_cores_file.specs.declared.stop.CoresLineFault.TheVariants.{Refused, Memory}
 use Rattle.fl_cores_file.specs.CoresFile.{Reading, belongs, named_by, does, does_block, DoesCommand, Does}
 use Rattle.fl_cores_file.specs.Draft.{Draft}
-use Rattle.fl_cores_file.specs.Verdicts.{LineVerdict, stops, goes_on, stop_of, Comes, ComesTo}
+use Rattle.fl_cores_file.specs.Verdicts.{LineVerdict, stops, stop_of, Comes, ComesTo}
 
 pub comes_to : {A T : Type 0} (result : Result T CoresLineFault) (left : A) (P : LineVerdict A → Type 0) (v : LineVerdict A) → P v → Comes result left v → ComesTo result left P
 comes_to (Ok x) left P v p h = subst P h p

@@ -1,14 +1,14 @@
 -- A cores file comes to one thing.
 use Rattle.std.proofs.Common.{◌≡◌, ◌∙◌, ◌+◌, ℕ, Bool, true, false, List, [], ◌∷◌, sym, ap, subst}
 use Rattle.std.specs.Bool.{MatchBool}
-use Rattle.fl_check.specs.Text.{TextMeans, OneText}
+use Rattle.fl_check.specs.Text.{OneText}
 use Rattle.fl_script_lines.specs.Asked.{Asked, Asks}
 use Rattle.fl_script_lines.specs.Commands.{Command}
 use Rattle.fl_script_lines.specs.Grammar.{silent, heading, command, unread}
-use Rattle.fl_script_lines.specs.Items.{Item, a_line, a_block, open_block, ItemsOf, OneItems, is_too_long}
+use Rattle.fl_script_lines.specs.Items.{Item, a_line, a_block, open_block, OneItems, is_too_long}
 use Rattle.fl_script_lines.specs.Told.{OneAsked}
 use Rattle.fl_cores_file.specs.CoresFile.{Reading, FileOutcome, beginning, refused_at, belongs, does, does_block, DoesCommand, Does, lines_in, Behind, Follows, ReadsFrom}
-use Rattle.fl_cores_file.specs.CoresFile.{Reads, OneOutcome}
+use Rattle.fl_cores_file.specs.CoresFile.{OneOutcome}
 use Rattle.fl_cores_file.specs.Verdicts.{LineVerdict, stops, goes_on}
 
 -- ---- one line

@@ -16,7 +16,7 @@ use Rattle.fl_history_rings.specs.declared.board.Entry.{Entry}
 use Rattle.fl_history_rings.specs.declared.board.RingEnds.{RingEnds}
 use Rattle.fl_history_rings.specs.declared.board.Plan.{Plan}
 use Rattle.fl_history_rings.specs.declared.board.Own.{Own}
-use Rattle.fl_history_rings.specs.declared.board.Board.{Board}
+use Rattle.fl_history_rings.specs.declared.board.RingsBoard.{RingsBoard}
 use Rattle.fl_history_rings.specs.declared.board.Insight.TheVariants.{Room}
 use Rattle.fl_history_rings.specs.declared.board.CoreView.{CoreView}
 use Rattle.fl_history_rings.specs.Rings.{entry, steps_of}
@@ -404,7 +404,7 @@ module _ (n : ℕ) (ends : List RingEnds) (cores next : ℕ) (m : Seated) (some_
       others ∙ ap (λ (x : Seated). let y : Seated = (without_first x.0, x.1) in y) whole
       ∙ ap (λ (x : ℕ). let y : Seated = (seat_of (fresh_cores n ends x still), []) in y) one_on
 
-pub one_gathering : (board : Board) (own : Own) → IsWhole board own → IsGathering board own.seat
+pub one_gathering : (board : RingsBoard) (own : Own) → IsWhole board own → IsGathering board own.seat
 one_gathering board own whole =
     let s = whole.own_is.seated in
     let one : length own.seat.me.0.cores ≡ 1 = ap length (lone_cores own.seat.me (rest_of (key_of board) own.seat) s.resting) in
@@ -417,7 +417,7 @@ one_gathering board own whole =
     }
 
 -- what the seat of both holds
-pub both_gathering : (board : Board) (old new seat : RingsSeat) → IsGathering board old → new.table_id ≡ old.table_id → new.me ≡ (both_of old.me.0 seat.me.0, old.me.1) → IsGathering board new
+pub both_gathering : (board : RingsBoard) (old new seat : RingsSeat) → IsGathering board old → new.table_id ≡ old.table_id → new.me ≡ (both_of old.me.0 seat.me.0, old.me.1) → IsGathering board new
 both_gathering board old new seat g same is =
     let long : length new.me.0.cores ≡ length old.me.0.cores + length seat.me.0.cores =
     ap (λ (m : Seated). length m.0.cores) is ∙ length-append old.me.0.cores seat.me.0.cores in
@@ -430,17 +430,17 @@ both_gathering board old new seat g same is =
     }
 
 -- as code finds it
-pub some_left : (board b : Board) (next : ℕ) → b ≡ board → key_of board ≡ board.plan → next < b.plan.cores → next < (key_of board).cores
-some_left board b next is plan_is low = subst (λ (p : Plan). next < p.cores) (sym plan_is) (subst (λ (x : Board). next < x.plan.cores) is low)
+pub some_left : (board b : RingsBoard) (next : ℕ) → b ≡ board → key_of board ≡ board.plan → next < b.plan.cores → next < (key_of board).cores
+some_left board b next is plan_is low = subst (λ (p : Plan). next < p.cores) (sym plan_is) (subst (λ (x : RingsBoard). next < x.plan.cores) is low)
 
-pub core_ends : (board b : Board) (own : Own) (s : TheCore) (xs : List RingEnds) → IsWhole board own → core_shown own.seat ≡ s → b ≡ board → xs ≡ b.plan.ends.items → s.ends ≡ xs
+pub core_ends : (board b : RingsBoard) (own : Own) (s : TheCore) (xs : List RingEnds) → IsWhole board own → core_shown own.seat ≡ s → b ≡ board → xs ≡ b.plan.ends.items → s.ends ≡ xs
 core_ends board b own s xs whole shows is list =
     shown_ends board.table.shared.table_id (key_of board) own s whole.own_is shows
-    ∙ (ap (λ (p : Plan). p.ends.items) whole.plan_is ∙ (ap (λ (x : Board). x.plan.ends.items) (sym is) ∙ sym list))
+    ∙ (ap (λ (p : Plan). p.ends.items) whole.plan_is ∙ (ap (λ (x : RingsBoard). x.plan.ends.items) (sym is) ∙ sym list))
 
-pub core_slots : (board b d : Board) → key_of board ≡ board.plan → b ≡ board → d ≡ board → b.plan.slots ≡ (key_of d).slots
-core_slots board b d plan_is is same = ap (λ (x : Board). x.plan.slots) is ∙ (ap (λ (p : Plan). p.slots) (sym plan_is) ∙ ap (λ (x : Board). (key_of x).slots) (sym same))
+pub core_slots : (board b d : RingsBoard) → key_of board ≡ board.plan → b ≡ board → d ≡ board → b.plan.slots ≡ (key_of d).slots
+core_slots board b d plan_is is same = ap (λ (x : RingsBoard). x.plan.slots) is ∙ (ap (λ (p : Plan). p.slots) (sym plan_is) ∙ ap (λ (x : RingsBoard). (key_of x).slots) (sym same))
 
-pub key_ends : (board b d : Board) (xs : List RingEnds) → key_of board ≡ board.plan → b ≡ board → d ≡ board → xs ≡ b.plan.ends.items → xs ≡ (key_of d).ends.items
+pub key_ends : (board b d : RingsBoard) (xs : List RingEnds) → key_of board ≡ board.plan → b ≡ board → d ≡ board → xs ≡ b.plan.ends.items → xs ≡ (key_of d).ends.items
 key_ends board b d xs plan_is is same list =
-    list ∙ (ap (λ (x : Board). x.plan.ends.items) is ∙ (ap (λ (p : Plan). p.ends.items) (sym plan_is) ∙ ap (λ (x : Board). (key_of x).ends.items) (sym same)))
+    list ∙ (ap (λ (x : RingsBoard). x.plan.ends.items) is ∙ (ap (λ (p : Plan). p.ends.items) (sym plan_is) ∙ ap (λ (x : RingsBoard). (key_of x).ends.items) (sym same)))

@@ -9,7 +9,7 @@ use Rattle.fl_history_rings.specs.declared.board.Action.TheVariants.{Found}
 use Rattle.fl_history_rings.specs.declared.board.Entry.{Entry}
 use Rattle.fl_history_rings.specs.declared.board.RingEnds.{RingEnds}
 use Rattle.fl_history_rings.specs.declared.board.Plan.{Plan}
-use Rattle.fl_history_rings.specs.declared.board.Board.{Board}
+use Rattle.fl_history_rings.specs.declared.board.RingsBoard.{RingsBoard}
 use Rattle.fl_history_rings.specs.declared.board.CoreView.{CoreView}
 use Rattle.fl_history_rings.specs.declared.board.Own.{Own}
 use Rattle.fl_history_rings.specs.declared.board.SeatView.{SeatView}
@@ -39,7 +39,7 @@ pub record IsSeated (table : TableId) (plan : Plan) (seat : RingsSeat) : Type 0 
   pub resting : seat.me ≡ (one_core (at_rest plan.slots plan.ends.items (number_at seat) (steps_at seat)), [])
 
 -- what the table was told of its plan
-abbrev pub key_of : Board → Plan
+abbrev pub key_of : RingsBoard → Plan
 key_of board = board.table.shared.key
 
 -- by ring, the places of the letters of these numbers
@@ -59,7 +59,7 @@ pub record IsCore (table : TableId) (plan : Plan) (seat : RingsSeat) (number : �
 abbrev pub IsOwn : TableId → Plan → Own → Type 0
 IsOwn table plan own = IsCore table plan own.seat own.number own.puts.items own.takes.items
 
-pub record IsWhole (board : Board) (own : Own) : Type 0 where
+pub record IsWhole (board : RingsBoard) (own : Own) : Type 0 where
   pub own_is : IsOwn board.table.shared.table_id (key_of board) own
   pub plan_is : key_of board ≡ board.plan
 
@@ -107,14 +107,14 @@ pub record TheCoresLeft : Type 0 where
   pub cores : ℕ
   pub next : ℕ
 
-pub record AreLeft (board : Board) (seat : RingsSeat) (next : ℕ) : Type 0 where
+pub record AreLeft (board : RingsBoard) (seat : RingsSeat) (next : ℕ) : Type 0 where
   pub same : seat.table_id ≡ board.table.shared.table_id
   pub laid : IsLaid board.table.shared.table_id (key_of board)
   pub plan_is : key_of board ≡ board.plan
   pub within : next ≤ (key_of board).cores
   pub waiting : seat.me ≡ (seat_of (fresh_cores (key_of board).slots (key_of board).ends.items next ((key_of board).cores - next)), [])
 
-abbrev pub left_shown : Board → RingsSeat → ℕ → TheCoresLeft
+abbrev pub left_shown : RingsBoard → RingsSeat → ℕ → TheCoresLeft
 left_shown board seat next = record {
   table = seat.table_id;
   slots = (key_of board).slots;
@@ -141,7 +141,7 @@ pub record TheGathering : Type 0 where
   pub ends : List RingEnds
   pub cores : List TheCore
 
-pub record IsGathering (board : Board) (seat : RingsSeat) : Type 0 where
+pub record IsGathering (board : RingsBoard) (seat : RingsSeat) : Type 0 where
   pub same : seat.table_id ≡ board.table.shared.table_id
   pub some_words : 0 < board.table.shared.table_id.words
   pub none_held : seat.me.1 ≡ []

@@ -85,7 +85,7 @@ pub(crate) type RingsSeat = Seat<(), SeatView>;
 
 /// The table, and its plan.
 #[derive(Drop)]
-pub struct Board {
+pub struct RingsBoard {
     pub(crate) table: RingsTable,
     pub(crate) plan: Plan,
 }

@@ -7,7 +7,7 @@ use crate::board::RingEnds;
 use crate::gathering::Gathering;
 use crate::law::law_not_all_begin_by_finding;
 use crate::making::{CoresLeft, rings};
-use crate::one_core::Core;
+use crate::one_core::RingsCore;
 use std::alloc::{AllocError, Global};
 use std::thread::{Threads, join};
 
@@ -15,7 +15,7 @@ use std::thread::{Threads, join};
 ///
 /// # Errors
 /// Out of memory.
-pub fn pair(alloc: Global, slots: usize) -> Result<(Core, Core), AllocError>
+pub fn pair(alloc: Global, slots: usize) -> Result<(RingsCore, RingsCore), AllocError>
     requires slots { 0 < slots }
     ensures pair { IfOk result (λ cores. AreNewPair cores.0 cores.1) }
     ensures slots { IfOk result (λ cores. cores.0.slots ≡ slots) }
@@ -40,7 +40,7 @@ pub fn pair(alloc: Global, slots: usize) -> Result<(Core, Core), AllocError>
 }
 
 // The next core.
-pub(crate) fn next_of(left: &mut CoresLeft, alloc: Global) -> Result<Core, AllocError>
+pub(crate) fn next_of(left: &mut CoresLeft, alloc: Global) -> Result<RingsCore, AllocError>
     ensures core { IfOk result (λ core. (core ≡ next_core left.old) × (left.new ≡ without_next left.old)) }
 {
     let Ok(given) = left.core(alloc) else {
@@ -53,7 +53,7 @@ pub(crate) fn next_of(left: &mut CoresLeft, alloc: Global) -> Result<Core, Alloc
 }
 
 // Its first two cores.
-fn cores_of(alloc: Global, mut left: CoresLeft) -> Result<(Core, Core), AllocError>
+fn cores_of(alloc: Global, mut left: CoresLeft) -> Result<(RingsCore, RingsCore), AllocError>
     requires pair { IsPairLeft left }
     ensures pair { IfOk result (λ cores. AreNewPair cores.0 cores.1) }
     ensures slots { IfOk result (λ cores. cores.0.slots ≡ left.slots) }
@@ -68,7 +68,7 @@ fn cores_of(alloc: Global, mut left: CoresLeft) -> Result<(Core, Core), AllocErr
 }
 
 // The letter that stands first in the ring, if there is one.
-fn take_first(core: &mut Core, ring: usize) -> Option<u64>
+fn take_first(core: &mut RingsCore, ring: usize) -> Option<u64>
     requires new { core.old.steps ≡ [] }
     ensures took { TookFirst core.old core.new result }
 {
@@ -79,7 +79,7 @@ fn take_first(core: &mut Core, ring: usize) -> Option<u64>
 }
 
 // Puts a letter into the ring, if it may and there is room.
-fn put_on(core: &mut Core, ring: usize, letter: u64)
+fn put_on(core: &mut RingsCore, ring: usize, letter: u64)
     requires letter { letter ≢ 0 }
     ensures more { GoesOn core.old core.new }
 {
@@ -87,7 +87,7 @@ fn put_on(core: &mut Core, ring: usize, letter: u64)
 }
 
 // Takes from one ring, and then puts a letter into another.
-fn take_then_put(mut core: Core, from: usize, to: usize, letter: u64) -> (Core, Option<u64>)
+fn take_then_put(mut core: RingsCore, from: usize, to: usize, letter: u64) -> (RingsCore, Option<u64>)
     requires letter { letter ≢ 0 }
     requires new { core.steps ≡ [] }
     ensures took { TookFirst core result.0 result.1 }
@@ -100,8 +100,8 @@ fn take_then_put(mut core: Core, from: usize, to: usize, letter: u64) -> (Core, 
 /// Two new cores take and then put, each in a thread of its own: they don't both find a letter.
 pub fn take_before_they_put<R: Threads + Sync>(
     rt: &R,
-    one: Core,
-    two: Core,
+    one: RingsCore,
+    two: RingsCore,
     letter: u64,
 ) -> (Option<u64>, Option<u64>)
     requires letter { letter ≢ 0 }
@@ -110,11 +110,11 @@ pub fn take_before_they_put<R: Threads + Sync>(
 {
     let ((one, first), (two, second)) = join(
         rt,
-        move || -> (Core, Option<u64>)
+        move || -> (RingsCore, Option<u64>)
             requires { (letter ≢ 0) × (one.steps ≡ []) }
             ensures { TookFirst one result.0 result.1 }
         { take_then_put(one, 1, 0, letter) },
-        move || -> (Core, Option<u64>)
+        move || -> (RingsCore, Option<u64>)
             requires { (letter ≢ 0) × (two.steps ≡ []) }
             ensures { TookFirst two result.0 result.1 }
         { take_then_put(two, 0, 1, letter) },

@@ -3,8 +3,8 @@
 ghost use Rattle.std.specs.Prelude.{◌≡◌};
 ghost use Rattle.fl_history_rings.specs.Cores.{gathering_of, with_core, InOneOrder};
 
-use crate::board::{Board, Own, RingsSeat};
-use crate::one_core::Core;
+use crate::board::{RingsBoard, Own, RingsSeat};
+use crate::one_core::RingsCore;
 use crate::plays::{Compare, PartCores};
 use std::alloc::Global;
 use std::marker::Model;
@@ -13,7 +13,7 @@ use std::sync::Arc;
 /// Cores of one table that have ended, together again.
 #[derive(Drop)]
 pub struct Gathering {
-    pub(crate) board: Arc<Board, Global>,
+    pub(crate) board: Arc<RingsBoard, Global>,
     pub(crate) seat: RingsSeat,
 }
 
@@ -30,10 +30,10 @@ impl Model for Gathering {
 
 impl Gathering {
     /// One core by itself.
-    pub fn of(core: Core) -> Gathering
+    pub fn of(core: RingsCore) -> Gathering
         ensures one { result ≡ gathering_of core }
     {
-        let Core { board, own } = core;
+        let RingsCore { board, own } = core;
         let Own {
             seat,
             number: _,
@@ -45,11 +45,11 @@ impl Gathering {
     }
 
     /// One core more, of the same table.
-    pub fn add(&mut self, core: Core)
+    pub fn add(&mut self, core: RingsCore)
         requires table { core.table ≡ self.old.table }
         ensures more { self.new ≡ with_core self.old core }
     {
-        let Core { board: _, own } = core;
+        let RingsCore { board: _, own } = core;
         let Own {
             seat,
             number: _,

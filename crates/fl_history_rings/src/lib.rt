@@ -5,7 +5,7 @@
 //! steps at all its rings. The rule of the table (`specs/Rule.antt`) says that there is a list of all steps so far, at
 //! any ring; a core knows the steps that it made itself.
 //!
-//! Contract for the layers above: [`rings`], [`CoresLeft`], [`Core`] and [`Gathering`]. Once cores are together again,
+//! Contract for the layers above: [`rings`], [`CoresLeft`], [`RingsCore`] and [`Gathering`]. Once cores are together again,
 //! there is one order of all that they did, at all rings, in which each take finds the letter that stands first in its
 //! ring (`InOneOrder` of `specs/Cores.antt`).
 //!
@@ -13,7 +13,7 @@
 //! - `plays.rt`: the kinds of step
 //! - `steps.rt`: steps in a row
 //! - `own.rt`: them, with a core's seat and places
-//! - `one_core.rt`: `Core`
+//! - `one_core.rt`: `RingsCore`
 //! - `making.rt`: `rings` and `CoresLeft`
 //! - `gathering.rt`: `Gathering`
 //! - `law.rt`: what one order of all rings rules out
@@ -29,12 +29,10 @@ mod one_core;
 mod own;
 mod plays;
 mod steps;
-#[cfg(test)]
-mod tests;
 
 pub use board::RingEnds;
 pub use crossing::{pair, take_before_they_put};
 pub use gathering::Gathering;
 pub use law::law_not_all_begin_by_finding;
 pub use making::{CoresLeft, rings};
-pub use one_core::{Core, Foreign};
+pub use one_core::{Foreign, RingsCore};

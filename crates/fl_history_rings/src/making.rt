@@ -4,8 +4,8 @@ ghost use Rattle.std.specs.Prelude.{◌≡◌, ◌+◌, ◌*◌, ◌<◌, ◌≤
 ghost use Rattle.fl_history_rings.specs.Rule.{first_view};
 ghost use Rattle.fl_history_rings.specs.Cores.{IsLaid, all_left, next_core, without_next};
 
-use crate::board::{Board, Own, Plan, RingEnds, RingsSeat, RingsTable};
-use crate::one_core::Core;
+use crate::board::{RingsBoard, Own, Plan, RingEnds, RingsSeat, RingsTable};
+use crate::one_core::RingsCore;
 use crate::plays::PartCores;
 use std::alloc::{AllocError, Global};
 use std::marker::Model;
@@ -14,7 +14,7 @@ use std::sync::Arc;
 /// The cores at the rings of a table that aren't given out yet.
 #[derive(Drop)]
 pub struct CoresLeft {
-    pub(crate) board: Arc<Board, Global>,
+    pub(crate) board: Arc<RingsBoard, Global>,
     pub(crate) seat: RingsSeat,
     pub(crate) next: usize,
 }
@@ -74,7 +74,7 @@ fn cores_left(
     requires seat { seat.me ≡ (first_view plan.slots plan.ends.items plan.cores, []) }
     ensures left { IfOk result (λ left. left ≡ all_left left.table plan.slots plan.ends.items plan.cores) }
 {
-    let Ok(board) = Arc::new(alloc, Board { table, plan }) else {
+    let Ok(board) = Arc::new(alloc, RingsBoard { table, plan }) else {
         return Err(AllocError);
     };
     let left = CoresLeft {
@@ -90,7 +90,7 @@ impl CoresLeft {
     ///
     /// # Errors
     /// Out of memory: the core isn't given out.
-    pub fn core(&mut self, alloc: Global) -> Result<Option<Core>, AllocError>
+    pub fn core(&mut self, alloc: Global) -> Result<Option<RingsCore>, AllocError>
         ensures given { IfOk result (λ given. MatchOption given ((self.new ≡ self.old) × (self.old.cores ≤ self.old.next))
             (λ core. (self.old.next < self.old.cores) × (core ≡ next_core self.old) × (self.new ≡ without_next self.old))) }
         ensures kept { OnErr result (self.new ≡ self.old) }
@@ -118,7 +118,7 @@ impl CoresLeft {
             puts,
             takes,
         };
-        let core = Core { board, own };
+        let core = RingsCore { board, own };
         Ok(Some(core))
     }
 }

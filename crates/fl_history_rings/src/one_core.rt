@@ -4,7 +4,7 @@ ghost use Rattle.std.specs.Prelude.{◌≡◌, ◌≢◌, IfOk, IfSome, MatchBoo
 ghost use Rattle.fl_history_rings.specs.Cores.{noting, Writes, Reads};
 ghost use Rattle.fl_history_rings.specs.declared.board.Action.TheVariants.{Put, Full, Found, Missed, Freed};
 
-use crate::board::{Board, Own};
+use crate::board::{RingsBoard, Own};
 use crate::own::{is_reader, is_writer};
 use std::alloc::Global;
 use std::marker::Model;
@@ -17,12 +17,12 @@ pub struct Foreign;
 /// A core: it puts letters into the rings that it writes, and takes letters from those that it reads, all with one
 /// seat. It moves to a thread of its own.
 #[derive(Drop)]
-pub struct Core {
-    pub(crate) board: Arc<Board, Global>,
+pub struct RingsCore {
+    pub(crate) board: Arc<RingsBoard, Global>,
     pub(crate) own: Own,
 }
 
-impl Model for Core {
+impl Model for RingsCore {
     ghost use Rattle.std.specs.Arc.{arc_value};
     ghost use Rattle.fl_history_rings.specs.Cores.{TheCore, core_shown, IsWhole};
 
@@ -33,7 +33,7 @@ impl Model for Core {
     ghost invariant = { λ s. IsWhole (arc_value s.board) s.own };
 }
 
-impl Core {
+impl RingsCore {
     /// Puts a letter, which isn't 0, into the ring of this number, and says whether there was room. Where there was none,
     /// nothing was put.
     ///

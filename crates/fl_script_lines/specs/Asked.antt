@@ -1,6 +1,6 @@
 -- What a command asks: it is refused for its names, or it asks the machine an event. The refusals stand in the order in
 -- which they are answered; those that the machine finds come behind them.
-use Rattle.std.specs.Prelude.{◌≡◌, ◌⊎◌, ℕ, Bool, true, false, if◌then◌else◌, List, ◌∷◌, is_some}
+use Rattle.std.specs.Prelude.{◌≡◌, ◌⊎◌, ℕ, Bool, if◌then◌else◌, List, ◌∷◌, is_some}
 use Rattle.fl_base.specs.declared.identity.EndId.{EndId}
 use Rattle.fl_base.specs.Given.{given}
 use Rattle.fl_interface.specs.Interface.{TheInterface}

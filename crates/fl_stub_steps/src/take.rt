@@ -9,7 +9,7 @@ use crate::give::{copy, copy_each, length_at};
 use crate::step::{PreparedCode, StubStep};
 use std::alloc::AllocError;
 
-// What is left behind so many bytes, or as many as there are.
+// What is left once so many bytes are skipped, or as many as there are.
 #[inline(always)]
 fn pass(count: usize, payload: &[u8]) -> &[u8]
     ensures { result.now ≡ drop count payload.now }
@@ -18,7 +18,7 @@ fn pass(count: usize, payload: &[u8]) -> &[u8]
     left
 }
 
-// What is left behind the bytes up to a multiple of 8.
+// What is left from the next multiple of 8 on, counted from the end.
 #[inline(always)]
 fn pass_to_8(payload: &[u8]) -> &[u8]
     ensures { result.now ≡ drop (length payload.now % 8) payload.now }
@@ -84,8 +84,9 @@ fn take_steps<'p>(
 }
 
 impl PreparedCode {
-    /// Appends the packed tape that the code takes from a payload with its zeros, and tells what is left behind it: of a payload
-    /// that is the code's all but what stood behind it. From any other it takes what bytes there are.
+    /// Appends the packed tape that the code takes from a payload, and tells what is left. Where the bytes begin with what the
+    /// code makes of a tape, and their number is a multiple of 8, that tape is appended, and what stands behind is left
+    /// ([`law_takes_back`]). Zeros aren't looked at.
     ///
     /// # Errors
     /// Out of memory (E99), and nothing else. Nothing is known of what stands on the tape then.

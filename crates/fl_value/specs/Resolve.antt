@@ -26,11 +26,12 @@ resolved_at i values (Some k) = if nat_lt k 65536 then where_fitting i (record {
 abbrev pub resolved : TheInterface → List ℕ → List Datum → Result TheCall ValueFault
 resolved i name values = resolved_at i values (named_from name i.messages 0)
 
--- the number of a message of this name, as `resolved` finds it
+-- a message's number is below 65,536
 abbrev pub number_below : Option ℕ → Option ℕ
 number_below None = None
 number_below (Some k) = if nat_lt k 65536 then Some k else None
 
+-- the number of the first message of this name, as `resolved` finds it
 abbrev pub message_number : TheInterface → List ℕ → Option ℕ
 message_number i name = number_below (named_from name i.messages 0)
 

@@ -30,8 +30,9 @@ may_want_memory (monitor_write core neighbour) = false
 may_want_memory (monitor_ack core neighbour) = false
 may_want_memory event = true
 
--- memory may be wanting for the event, and is told last: no refusal is what it comes to. A turn wants memory only where its dispatcher is there and it handles a call, and a
--- forward only for a message that is heard, and that makes a monitor say something.
+-- memory may be wanting for the event, and is told last: no refusal is what it comes to. A turn wants memory only where its
+-- dispatcher is there and it handles a call, and a forward only for a message that is heard, and that makes a monitor say
+-- something.
 abbrev pub WantsMemory : Event → TheWorld → Type 0
 WantsMemory (turn d) w = WantsToHandle d w
 WantsMemory (forward core neighbour) w = WantsToSay core neighbour w

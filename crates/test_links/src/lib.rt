@@ -1,14 +1,17 @@
-//! Tests of lists, waitsets, links, rings, streams and circuits, over their public calls alone: one crate, since each crate of tests
+//! Tests of lists, waitsets, links, rings, streams, histories of rings and circuits, over their public calls alone: one crate, since each crate of tests
 //! begins with reading all that it stands on.
 //!
 //! - `ring.rt`: lists, waitsets, links and rings
 //! - `streams.rt`: streams, in one thread and in two
+//! - `histories.rt`: many rings in one table, in one thread and in two
 //! - `hop.rt`: circuits at cores
 //!
 //! `rt try --test --fail-alloc N` runs each with its Nth allocation refused: then the tests whose names end in
 //! `without_memory` have to pass, and others end out of memory.
 #![tactic(auto)]
 
+#[cfg(test)]
+mod histories;
 #[cfg(test)]
 mod hop;
 #[cfg(test)]

@@ -1,4 +1,4 @@
-use Rattle.std.proofs.Common.{◌++◌, ◌∙◌, arith}
+use Rattle.std.proofs.Common.{◌∙◌, arith}
 use Rattle.fl_compile_tape.proofs.FragBytes.{words_more}
 use Rattle.fl_compile_tape.proofs.frags.push_words.Goals as goal
 

@@ -1,6 +1,6 @@
 use Rattle.std.proofs.Common.{◌<◌, ap, subst, ◌∙◌, sym}
 use Rattle.std.specs.Arc.{arc_value}
-use Rattle.fl_history_rings.specs.declared.board.Board.{Board}
+use Rattle.fl_history_rings.specs.declared.board.RingsBoard.{RingsBoard}
 use Rattle.fl_history_rings.specs.Cores.{TheCore, TheGathering, key_of, core_shown, with_core}
 use Rattle.fl_history_rings.proofs.Allowed.{Seated}
 use Rattle.fl_history_rings.proofs.Makes.{rings_join}
@@ -10,12 +10,12 @@ use Rattle.fl_history_rings.proofs.gathering.Gathering.add.Goals as goal
 pub join_seat-requires : goal.join_seat-requires
 join_seat-requires c =
     let s = c.core.invariant.own_is.seated in
-    let board : Board = arc_value c.self.inside.board in
-    let same = c.self.invariant.same ∙ ap (λ (b : Board). b.table.shared.table_id) (sym c.deref.ensures) in (
+    let board : RingsBoard = arc_value c.self.inside.board in
+    let same = c.self.invariant.same ∙ ap (λ (b : RingsBoard). b.table.shared.table_id) (sym c.deref.ensures) in (
       same,
       ap (λ (x : TheCore). x.table) c.core.view_is ∙ (c.requires.table ∙ (ap (λ (g : TheGathering). g.table) (sym c.self.view_is) ∙ same)),
       ap (λ (m : Seated). m.1) s.resting,
-      subst (λ (b : Board). 0 < b.table.shared.table_id.words) (sym c.deref.ensures) c.self.invariant.some_words,
+      subst (λ (b : RingsBoard). 0 < b.table.shared.table_id.words) (sym c.deref.ensures) c.self.invariant.some_words,
       rings_join (key_of c.deref.result.now).slots (key_of c.deref.result.now).ends.items _ _ _ _ (rest_of (key_of (arc_value c.core.inside.board)) c.core.inside.own.seat) (ap (λ (m : Seated). m.0) s.resting),
     )
 

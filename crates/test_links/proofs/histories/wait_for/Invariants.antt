@@ -1,5 +1,5 @@
 use Rattle.std.proofs.Common.{◌≡◌}
-use Rattle.fl_history_rings.proofs.tests.wait_for.Given as goal
+use Rattle.test_links.proofs.histories.wait_for.Given as goal
 
 -- the core stays the same table's
 abbrev pub invariant-loop-look : goal.invariant-loop-look

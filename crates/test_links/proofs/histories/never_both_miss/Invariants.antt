@@ -1,5 +1,5 @@
 use Rattle.std.proofs.Common.{◌≡◌}
-use Rattle.fl_history_rings.proofs.tests.never_both_miss.Given as goal
+use Rattle.test_links.proofs.histories.never_both_miss.Given as goal
 
 -- the core stays the same table's
 abbrev pub invariant-loop : goal.invariant-loop

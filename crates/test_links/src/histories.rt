@@ -1,12 +1,9 @@
-//! Tests of each call, in one thread and in two.
-//!
-//! `rt try --test --fail-alloc N` runs each with its Nth allocation refused: then `letters_come_out_in_order` has to pass, and
-//! others end with out of memory or pass.
+//! Many rings in one table: each call, in one thread and in two.
 
-ghost use Rattle.std.specs.Prelude.{◌≡◌, ◌≢◌};
+ghost use Rattle.std.specs.Prelude.{◌≡◌, ◌≢◌, IfOk};
+ghost use Rattle.fl_history_rings.specs.Cores.{next_core, without_next};
 
-use super::*;
-use crate::crossing::next_of;
+use fl_history_rings::{CoresLeft, Gathering, RingEnds, RingsCore, pair, rings, take_before_they_put};
 use std::alloc::{AllocError, Global};
 use std::hint::spin_loop;
 use std::test::Fail;
@@ -20,14 +17,14 @@ const LOOKS: u32 = 10_000_000;
 
 const QUICK_LOOKS: u32 = 1_000;
 
-fn puts(core: &mut Core, ring: usize, letter: u64) -> bool
+fn puts(core: &mut RingsCore, ring: usize, letter: u64) -> bool
     requires { letter ≢ 0 }
     ensures { core.new.table ≡ core.old.table }
 {
     matches!(core.put(ring, letter), Ok(true))
 }
 
-fn takes(core: &mut Core, ring: usize) -> Option<u64>
+fn takes(core: &mut RingsCore, ring: usize) -> Option<u64>
     ensures { core.new.table ≡ core.old.table }
 {
     let Ok(found) = core.take(ring) else {
@@ -37,7 +34,7 @@ fn takes(core: &mut Core, ring: usize) -> Option<u64>
 }
 
 // Whether letters come out in order where there is room for two, and at no ring of others.
-fn come_in_order(mut one: Core, mut two: Core) -> bool {
+fn come_in_order(mut one: RingsCore, mut two: RingsCore) -> bool {
     puts(&mut one, 0, 7)
         && puts(&mut one, 0, 8)
         && !puts(&mut one, 0, 9)
@@ -59,7 +56,7 @@ fn come_in_order_or_not_at_all(alloc: Global) -> bool {
 }
 
 #[test]
-fn letters_come_out_in_order(rt: HostRuntime) {
+fn letters_in_order_without_memory(rt: HostRuntime) {
     assert!(rt; come_in_order_or_not_at_all(rt.alloc()));
 }
 
@@ -86,8 +83,21 @@ fn three(alloc: Global) -> Result<CoresLeft, AllocError> {
     rings(alloc, 3, ends, 3)
 }
 
+// The next core.
+fn next_of(left: &mut CoresLeft, alloc: Global) -> Result<RingsCore, AllocError>
+    ensures core { IfOk result (λ core. (core ≡ next_core left.old) × (left.new ≡ without_next left.old)) }
+{
+    let Ok(given) = left.core(alloc) else {
+        return Err(AllocError);
+    };
+    let Some(core) = given else {
+        return Err(AllocError);
+    };
+    Ok(core)
+}
+
 // Whether a letter goes on from core to core, and one goes straight there. All that was done has one order.
-fn pass_on(mut zero: Core, mut one: Core, mut two: Core) -> bool
+fn pass_on(mut zero: RingsCore, mut one: RingsCore, mut two: RingsCore) -> bool
     requires { (one.table ≡ zero.table) × (two.table ≡ zero.table) }
 {
     let put = (puts(&mut zero, 0, 5), puts(&mut zero, 2, 6));
@@ -120,7 +130,7 @@ fn two_threads_do_not_both_find_a_letter(rt: HostRuntime) -> Result<(), Fail> {
 }
 
 // Looks until a letter is there.
-fn wait_for(core: &mut Core, ring: usize) -> Option<u64>
+fn wait_for(core: &mut RingsCore, ring: usize) -> Option<u64>
     ensures { core.new.table ≡ core.old.table }
 {
     for look in 0..LOOKS {
@@ -138,7 +148,7 @@ fn wait_for(core: &mut Core, ring: usize) -> Option<u64>
 }
 
 // Puts a letter, and only then takes the other's, for which it waits. Whether the first look found none stands beside it.
-fn put_then_take(core: &mut Core, to: usize, from: usize, letter: u64) -> (bool, Option<u64>)
+fn put_then_take(core: &mut RingsCore, to: usize, from: usize, letter: u64) -> (bool, Option<u64>)
     requires { letter ≢ 0 }
     ensures { core.new.table ≡ core.old.table }
 {
@@ -159,7 +169,7 @@ fn letter_of(missed: bool) -> u64
 
 // In each round both cores put and then take, and none goes on before both have. It says whether in each round one of the
 // two found a letter at once: one order of all steps wants it.
-fn never_both_miss(mut core: Core, to: usize, from: usize) -> (Core, bool)
+fn never_both_miss(mut core: RingsCore, to: usize, from: usize) -> (RingsCore, bool)
     ensures { result.0.table ≡ core.table }
 {
     let mut missed = false;
@@ -173,15 +183,15 @@ fn never_both_miss(mut core: Core, to: usize, from: usize) -> (Core, bool)
     (core, true)
 }
 
-fn meet<R: Threads + Sync>(rt: &R, one: Core, two: Core) -> bool
+fn meet<R: Threads + Sync>(rt: &R, one: RingsCore, two: RingsCore) -> bool
     requires { two.table ≡ one.table }
 {
     let ((one, here), (two, there)) = join(
         rt,
-        move || -> (Core, bool)
+        move || -> (RingsCore, bool)
             ensures { result.0.table ≡ one.table }
         { never_both_miss(one, 0, 1) },
-        move || -> (Core, bool)
+        move || -> (RingsCore, bool)
             ensures { result.0.table ≡ two.table }
         { never_both_miss(two, 1, 0) },
     );
