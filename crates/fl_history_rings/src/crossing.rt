@@ -87,7 +87,12 @@ fn put_on(core: &mut RingsCore, ring: usize, letter: u64)
 }
 
 // Takes from one ring, and then puts a letter into another.
-fn take_then_put(mut core: RingsCore, from: usize, to: usize, letter: u64) -> (RingsCore, Option<u64>)
+fn take_then_put(
+    mut core: RingsCore,
+    from: usize,
+    to: usize,
+    letter: u64,
+) -> (RingsCore, Option<u64>)
     requires letter { letter ≢ 0 }
     requires new { core.steps ≡ [] }
     ensures took { TookFirst core result.0 result.1 }

@@ -3,7 +3,7 @@
 ghost use Rattle.std.specs.Prelude.{◌≡◌};
 ghost use Rattle.fl_history_rings.specs.Cores.{gathering_of, with_core, InOneOrder};
 
-use crate::board::{RingsBoard, Own, RingsSeat};
+use crate::board::{Own, RingsBoard, RingsSeat};
 use crate::one_core::RingsCore;
 use crate::plays::{Compare, PartCores};
 use std::alloc::Global;

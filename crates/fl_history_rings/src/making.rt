@@ -4,7 +4,7 @@ ghost use Rattle.std.specs.Prelude.{◌≡◌, ◌+◌, ◌*◌, ◌<◌, ◌≤
 ghost use Rattle.fl_history_rings.specs.Rule.{first_view};
 ghost use Rattle.fl_history_rings.specs.Cores.{IsLaid, all_left, next_core, without_next};
 
-use crate::board::{RingsBoard, Own, Plan, RingEnds, RingsSeat, RingsTable};
+use crate::board::{Own, Plan, RingEnds, RingsBoard, RingsSeat, RingsTable};
 use crate::one_core::RingsCore;
 use crate::plays::PartCores;
 use std::alloc::{AllocError, Global};

@@ -4,7 +4,7 @@ ghost use Rattle.std.specs.Prelude.{◌≡◌, ◌≢◌, IfOk, IfSome, MatchBoo
 ghost use Rattle.fl_history_rings.specs.Cores.{noting, Writes, Reads};
 ghost use Rattle.fl_history_rings.specs.declared.board.Action.TheVariants.{Put, Full, Found, Missed, Freed};
 
-use crate::board::{RingsBoard, Own};
+use crate::board::{Own, RingsBoard};
 use crate::own::{is_reader, is_writer};
 use std::alloc::Global;
 use std::marker::Model;
