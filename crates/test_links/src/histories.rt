@@ -3,7 +3,9 @@
 ghost use Rattle.std.specs.Prelude.{◌≡◌, ◌≢◌, IfOk};
 ghost use Rattle.fl_history_rings.specs.Cores.{next_core, without_next};
 
-use fl_history_rings::{CoresLeft, Gathering, RingEnds, RingsCore, pair, rings, take_before_they_put};
+use fl_history_rings::{
+    CoresLeft, Gathering, RingEnds, RingsCore, pair, rings, take_before_they_put,
+};
 use std::alloc::{AllocError, Global};
 use std::hint::spin_loop;
 use std::test::Fail;
