@@ -51,11 +51,7 @@ fn make_call(alloc: Global, end: &mut End, call: &Call) -> Result<(), EndFault>
 }
 
 // Makes a call as it was read. The texts of the examples are calls of their interfaces.
-fn make_read(
-    alloc: Global,
-    end: &mut End,
-    read: Result<Call, ValueFault>,
-) -> Result<(), EndFault>
+fn make_read(alloc: Global, end: &mut End, read: Result<Call, ValueFault>) -> Result<(), EndFault>
     ensures program { end.new.program ≡ end.old.program }
 {
     match read {
@@ -199,12 +195,7 @@ fn is_refused(came: &Came, number: u8) -> bool {
     }
 }
 
-fn is_wanted(
-    alloc: Global,
-    end: &End,
-    came: &Came,
-    wanted: &Received,
-) -> Result<bool, AllocError> {
+fn is_wanted(alloc: Global, end: &End, came: &Came, wanted: &Received) -> Result<bool, AllocError> {
     match wanted {
         Received::Handled(text) => is_handled(alloc, end, came, text),
         Received::Part => Ok(matches!(came, Ok(ReceiveAnswer::Part))),
