@@ -12,8 +12,9 @@ use fl_base::{Circuit, Frag, MsgNo};
 use fl_core::{law_one_dispatcher_changes, law_one_end_changes, law_turn_accounts};
 use fl_endpoint::{
     End, EndFault, ReceiveAnswer, WriteAnswer, law_accounts_add_up, law_bind_accounts,
-    law_call_accounts, law_handles_in_order, law_on_another_circuit, law_receive_accounts,
-    law_replies_add_up, law_rule_accounts, law_since_made, law_takes_in_order, law_write_accounts,
+    law_call_accounts, law_exchange_accounts, law_handles_in_order, law_on_another_circuit,
+    law_receive_accounts, law_replies_add_up, law_rule_accounts, law_since_made,
+    law_takes_in_order, law_write_accounts,
 };
 use fl_link::QueueLink;
 use fl_machine::Reassemblies;
@@ -195,6 +196,7 @@ fn is_refused(came: &Came, number: u8) -> bool {
     }
 }
 
+// Whether what came of a fragment is this.
 fn is_wanted(alloc: Global, end: &End, came: &Came, wanted: &Received) -> Result<bool, AllocError> {
     match wanted {
         Received::Handled(text) => is_handled(alloc, end, came, text),
@@ -205,8 +207,8 @@ fn is_wanted(alloc: Global, end: &End, came: &Came, wanted: &Received) -> Result
     }
 }
 
-// The same, where memory ran out for no call.
-fn is_wanted_or_lacks(
+// The same; where memory ran out for a call it runs out here.
+fn is_wanted_with_memory(
     alloc: Global,
     end: &End,
     came: &Came,
@@ -238,7 +240,7 @@ fn receives(
     ensures place { IsPlaceOf end.new calls.new 0 }
 {
     let came = receive(end, calls, out);
-    is_wanted_or_lacks(alloc, end, &came, wanted)
+    is_wanted_with_memory(alloc, end, &came, wanted)
 }
 
 // Whether the next fragment makes the call of this text whole.
@@ -247,7 +249,7 @@ fn is_whole(
     end: &mut End,
     calls: &mut Reassemblies,
     out: &mut QueueLink,
-    text: &'static [u8],
+    text: &[u8],
 ) -> Result<bool, AllocError>
     requires place { IsPlaceOf end.old calls.old 0 }
     ensures place { IsPlaceOf end.new calls.new 0 }
@@ -263,7 +265,7 @@ fn is_whole_or_again(
     calls: &mut Reassemblies,
     out: &mut QueueLink,
     came: &Came,
-    text: &'static [u8],
+    text: &[u8],
 ) -> Result<bool, AllocError>
     requires place { IsPlaceOf end.old calls.old 0 }
     ensures place { IsPlaceOf end.new calls.new 0 }
@@ -280,7 +282,7 @@ fn is_whole_at_last(
     end: &mut End,
     calls: &mut Reassemblies,
     out: &mut QueueLink,
-    text: &'static [u8],
+    text: &[u8],
 ) -> Result<bool, AllocError>
     requires place { IsPlaceOf end.old calls.old 0 }
     ensures place { IsPlaceOf end.new calls.new 0 }
@@ -428,6 +430,7 @@ fn laws(_rt: HostRuntime) {
     law_receive_accounts::<QueueLink>();
     law_bind_accounts();
     law_rule_accounts();
+    law_exchange_accounts();
     law_since_made();
     law_handles_in_order();
     law_takes_in_order();

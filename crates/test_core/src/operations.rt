@@ -30,7 +30,7 @@ const LONG: &[u64] = &[3, 1, 2, 3, 4, 5, 6, 7, 8];
 
 const ECHO: &[u64] = &[0, 2, 97, 98];
 
-// The block of a handle.
+// The alignment and the size of a handle's block.
 const ALIGN: u32 = align_of::<Handle>() as u32;
 
 const SIZE: u64 = size_of::<Handle>() as u64;
@@ -39,8 +39,8 @@ const SIZE: u64 = size_of::<Handle>() as u64;
 // things that it may come to, and the count; and the numbers afterwards.
 type Row = (u8, u32, &'static [u64], (u32, u32, u64), &'static [u64]);
 
-// A side that is freed tells the alignment and the size of the handle's block, and answers nothing then.
-const FRAGMENTS: &[Row] = &[
+// At the two sides of a ring. A side that is freed tells its block, and answers nothing then.
+const SIDES: &[Row] = &[
     (2, 2, &[9; 8], (0, 0, 0), &[9; 8]),
     (
         1,
@@ -56,7 +56,7 @@ const FRAGMENTS: &[Row] = &[
     (2, 2, &[9; 8], (0, 1, 8), &[1, 2, 3, 4, 5, 6, 7, 196_611]),
     (2, 4, &[], (0, 1, 0), &[]),
     (1, 2, &[9; 8], (0, 2, 0), &[9; 8]),
-    // mistakes
+    // Mistakes at the same sides.
     (1, 1, &[0; 7], (103, 0, 0), &[0; 7]),
     (1, 2, &[0; 9], (103, 0, 0), &[0; 9]),
     (1, 3, &[], (103, 0, 0), &[]),
@@ -73,6 +73,7 @@ const FRAGMENTS: &[Row] = &[
     (1, 4, &[], (101, 0, 0), &[]),
 ];
 
+// At the two ends of a binding.
 const CALLS: &[Row] = &[
     (2, 10, &[0, 1], (0, 0, 0), &[0, 1]),
     (1, 11, &[], (0, 0, 0), &[]),
@@ -222,10 +223,10 @@ fn all_come_at<A: Asked, B: Asked>(one: A, two: B, rows: &[Row]) -> Result<bool,
     all_come(&mut one, &mut two, rows)
 }
 
-// The two sides of a ring. None are made only where memory runs out; so it is of what is made below.
+// The two sides of a ring. Only where memory runs out none are made; so it is of the ends and the runs below.
 fn sides_answer(alloc: Global) -> Result<bool, AllocError> {
     match ring_handles(alloc, 4) {
-        Ok((one, two)) => all_come_at(one, two, FRAGMENTS),
+        Ok((one, two)) => all_come_at(one, two, SIDES),
         Err(_) => Err(AllocError),
     }
 }
