@@ -1,7 +1,7 @@
 -- Commands and arguments with words of help and settings of their own, as `clap` reads them.
-use Rattle.std.proofs.Common.{◌≡◌, ◌∙◌, Bool, true}
+use Rattle.std.proofs.Common.{◌≡◌, ◌∙◌, Bool, true, Some}
 use Rattle.clap.specs.Simple.{app_of_fields}
-use Rattle.clap.specs.Words.{App, Rule}
+use Rattle.clap.specs.Words.{App, Rule, Text}
 use Rattle.clap.specs.declared.builder.arg.Arg.{Arg}
 use Rattle.clap.specs.declared.builder.command.Command.{Command}
 use Rattle.clap.specs.declared.builder.command.Command.TheOpen.{Command-F}
@@ -22,6 +22,10 @@ is_global arg = arg.global
 -- a rule that has to be kept
 abbrev pub wanted : Rule → Rule
 wanted r = record r { required = true }
+
+-- a rule of an option of this name
+abbrev pub named : Text → Rule → Rule
+named name r = record r { long = Some name }
 
 -- an app that has a version
 abbrev pub with_version : App → App

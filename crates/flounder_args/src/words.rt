@@ -1,12 +1,13 @@
 //! The words of the command line, read by `clap`.
 
 ghost use Rattle.std.specs.Prelude.{◌≡◌, false, map, option_map, IfOk, Some, codes};
-ghost use Rattle.clap.specs.Words.{FailsBy, new_app, with_rule, fault_of, first_of, found_of, rows_of, rule_of, subcommand_rows_of};
-ghost use Rattle.flounder_args.specs.Words.{exec_command, exec_with_explain, exec_asked, show_with_file, flag, is_told};
+ghost use Rattle.clap.specs.Words.{App, Rule, new_app, new_rule, with_rule, with_subcommand};
+ghost use Rattle.clap.specs.Words.{FailsBy, fault_of, first_of, found_of, rows_of, rule_of, subcommand_rows_of};
+ghost use Rattle.flounder_args.specs.Words.{exec_command, exec_with_explain, exec_asked, flag, is_told};
 ghost use Rattle.flounder_args.specs.Words.{bare_program, to_compile, show_command, compile_command, program, IsCommand};
-ghost use Rattle.flounder_args.specs.Words.{required, compile_with_file, with_exec, with_compile, with_show, with_cores, with_chart};
-ghost use Rattle.flounder_args.specs.Words.{turns_option, cores_with_file, cores_with_turns, script_option, cores_command, cores_asked, cores_of, turns_asked};
-ghost use Rattle.flounder_args.specs.Words.{lines_option, chart_with_file, chart_command, chart_asked, header_command, header_asked};
+ghost use Rattle.flounder_args.specs.Words.{required, with_exec, with_compile, with_show, with_cores, with_chart};
+ghost use Rattle.flounder_args.specs.Words.{turns_option, cores_with_turns, cores_command, cores_asked, cores_of, turns_asked};
+ghost use Rattle.flounder_args.specs.Words.{chart_command, chart_asked, header_command, header_asked};
 ghost use Rattle.flounder_args.specs.Words.{asked_by, show_asked, compile_asked, command_asked, asked_of, asks_for, refusals};
 
 use clap::builder::ValueParser;
@@ -234,20 +235,68 @@ fn flag<'a>(alloc: Global, name: &'a str, help: &'a str) -> Arg<'a>
         .help(help)
 }
 
+/// An argument that has to be there.
+fn required_argument<'a>(alloc: Global, id: &'a str, help: &'a str) -> Arg<'a>
+    ensures rule { rule_of result ≡ required id.now }
+    ensures local { result.global ≡ false }
+{
+    Arg::new(alloc, id).required(true).help(help)
+}
+
+/// An option with a value, which need not be there.
+fn option_argument<'a>(alloc: Global, id: &'a str, long: &'a str, help: &'a str) -> Arg<'a>
+    ensures rule { rule_of result ≡ record (new_rule id.now) { long = Some long.now } }
+    ensures local { result.global ≡ false }
+{
+    Arg::new(alloc, id).long(long).help(help)
+}
+
+/// How many turns are counted.
+fn turns_option<'a>(alloc: Global) -> Arg<'a>
+    ensures rule { rule_of result ≡ turns_option }
+    ensures local { result.global ≡ false }
+{
+    Arg::new(alloc, TURNS)
+        .long(LONG_TURNS)
+        .required(true)
+        .value_parser(ValueParser::unsigned(0, MAX_TURNS))
+        .help(HELP_TURNS)
+}
+
+/// A command of this name, with these words of help.
+fn described<'a>(alloc: Global, name: &'a str, about: &'a str, after: &'a str) -> Command<'a>
+    ensures is { IsCommand (new_app name.now) result }
+{
+    Command::new(alloc, name).about(about).after_help(after)
+}
+
+/// A command with one more argument, where it could be made.
+fn with_argument<'a>(
+    made: Result<Command<'a>, AllocError>,
+    arg: Arg<'a>,
+) -> Result<Command<'a>, AllocError>
+    ensures is { (a : App) (r : Rule) → IfOk made.entry (IsCommand a) → rule_of arg.entry ≡ r → arg.entry.global ≡ false
+        → IfOk result (IsCommand (with_rule a r)) }
+{
+    match made {
+        Ok(command) => command.arg(arg),
+        Err(error) => {
+            drop(arg);
+            Err(error)
+        }
+    }
+}
+
 fn exec_with_explain<'a>(alloc: Global) -> Result<Command<'a>, AllocError>
     ensures is { IfOk result (IsCommand exec_with_explain) }
 {
-    let explain = flag(alloc, EXPLAIN, HELP_EXPLAIN);
-    Command::new(alloc, EXEC)
-        .about(ABOUT_EXEC)
-        .after_help(AFTER_EXEC)
-        .arg(explain)
+    described(alloc, EXEC, ABOUT_EXEC, AFTER_EXEC).arg(flag(alloc, EXPLAIN, HELP_EXPLAIN))
 }
 
 fn exec_command<'a>(alloc: Global) -> Result<Command<'a>, AllocError>
     ensures is { IfOk result (IsCommand exec_command) }
 {
-    exec_with_explain(alloc)?.arg(flag(alloc, STRICT, HELP_STRICT))
+    with_argument(exec_with_explain(alloc), flag(alloc, STRICT, HELP_STRICT))
 }
 
 const ABOUT_CHART: &str = "Draws a script's run, as SVG";
@@ -291,97 +340,52 @@ fn with_file<'a>(
 ) -> Result<Command<'a>, AllocError>
     ensures is { IfOk result (IsCommand (with_rule (new_app name.now) (required (codes "FILE")))) }
 {
-    let file = Arg::new(alloc, FILE).required(true).help(help);
-    Command::new(alloc, name)
-        .about(about)
-        .after_help(after)
-        .arg(file)
-}
-
-fn show_with_file<'a>(alloc: Global) -> Result<Command<'a>, AllocError>
-    ensures is { IfOk result (IsCommand show_with_file) }
-{
-    with_file(alloc, SHOW, ABOUT_SHOW, AFTER_SHOW, HELP_SHOWN)
+    described(alloc, name, about, after).arg(required_argument(alloc, FILE, help))
 }
 
 fn show_command<'a>(alloc: Global) -> Result<Command<'a>, AllocError>
     ensures is { IfOk result (IsCommand show_command) }
 {
-    show_with_file(alloc)?.arg(flag(alloc, NAMES, HELP_NAMES))
-}
-
-fn compile_with_file<'a>(alloc: Global) -> Result<Command<'a>, AllocError>
-    ensures is { IfOk result (IsCommand compile_with_file) }
-{
-    with_file(alloc, COMPILE, ABOUT_COMPILE, AFTER_COMPILE, HELP_TEXT)
-}
-
-fn out_argument<'a>(alloc: Global) -> Arg<'a>
-    ensures rule { rule_of result ≡ required (codes "OUT") }
-    ensures local { result.global ≡ false }
-{
-    Arg::new(alloc, OUT).required(true).help(HELP_OUT)
+    with_argument(
+        with_file(alloc, SHOW, ABOUT_SHOW, AFTER_SHOW, HELP_SHOWN),
+        flag(alloc, NAMES, HELP_NAMES),
+    )
 }
 
 fn compile_command<'a>(alloc: Global) -> Result<Command<'a>, AllocError>
     ensures is { IfOk result (IsCommand compile_command) }
 {
-    compile_with_file(alloc)?.arg(out_argument(alloc))
-}
-
-fn turns_option<'a>(alloc: Global) -> Arg<'a>
-    ensures rule { rule_of result ≡ turns_option }
-    ensures local { result.global ≡ false }
-{
-    Arg::new(alloc, TURNS)
-        .long(LONG_TURNS)
-        .required(true)
-        .value_parser(ValueParser::unsigned(0, MAX_TURNS))
-        .help(HELP_TURNS)
-}
-
-fn cores_with_file<'a>(alloc: Global) -> Result<Command<'a>, AllocError>
-    ensures is { IfOk result (IsCommand cores_with_file) }
-{
-    with_file(alloc, CORES, ABOUT_CORES, AFTER_CORES, HELP_CORES)
+    with_argument(
+        with_file(alloc, COMPILE, ABOUT_COMPILE, AFTER_COMPILE, HELP_TEXT),
+        required_argument(alloc, OUT, HELP_OUT),
+    )
 }
 
 fn cores_with_turns<'a>(alloc: Global) -> Result<Command<'a>, AllocError>
     ensures is { IfOk result (IsCommand cores_with_turns) }
 {
-    cores_with_file(alloc)?.arg(turns_option(alloc))
-}
-
-fn script_option<'a>(alloc: Global) -> Arg<'a>
-    ensures rule { rule_of result ≡ script_option }
-    ensures local { result.global ≡ false }
-{
-    Arg::new(alloc, OUT).long(LONG_SCRIPT).help(HELP_RECORD)
+    with_argument(
+        with_file(alloc, CORES, ABOUT_CORES, AFTER_CORES, HELP_CORES),
+        turns_option(alloc),
+    )
 }
 
 fn cores_command<'a>(alloc: Global) -> Result<Command<'a>, AllocError>
     ensures is { IfOk result (IsCommand cores_command) }
 {
-    cores_with_turns(alloc)?.arg(script_option(alloc))
-}
-
-fn lines_option<'a>(alloc: Global) -> Arg<'a>
-    ensures rule { rule_of result ≡ lines_option }
-    ensures local { result.global ≡ false }
-{
-    Arg::new(alloc, LINES).long(LONG_LINES).help(HELP_LINES)
-}
-
-fn chart_with_file<'a>(alloc: Global) -> Result<Command<'a>, AllocError>
-    ensures is { IfOk result (IsCommand chart_with_file) }
-{
-    with_file(alloc, CHART, ABOUT_CHART, AFTER_CHART, HELP_SCRIPT)
+    with_argument(
+        cores_with_turns(alloc),
+        option_argument(alloc, OUT, LONG_SCRIPT, HELP_RECORD),
+    )
 }
 
 fn chart_command<'a>(alloc: Global) -> Result<Command<'a>, AllocError>
     ensures is { IfOk result (IsCommand chart_command) }
 {
-    chart_with_file(alloc)?.arg(lines_option(alloc))
+    with_argument(
+        with_file(alloc, CHART, ABOUT_CHART, AFTER_CHART, HELP_SCRIPT),
+        option_argument(alloc, LINES, LONG_LINES, HELP_LINES),
+    )
 }
 
 fn header_command<'a>(alloc: Global) -> Result<Command<'a>, AllocError>
@@ -393,53 +397,79 @@ fn header_command<'a>(alloc: Global) -> Result<Command<'a>, AllocError>
 fn bare_program<'a>(alloc: Global) -> Command<'a>
     ensures is { IsCommand bare_program result }
 {
-    Command::new(alloc, "flounder")
-        .about(ABOUT)
-        .after_help(STATUSES)
+    described(alloc, "flounder", ABOUT, STATUSES)
         .disable_help_subcommand(true)
         .version(VERSION)
+}
+
+// A program with one more command, where that could be made.
+fn one_more<'a>(
+    program: Command<'a>,
+    made: Result<Command<'a>, AllocError>,
+) -> Result<Command<'a>, AllocError>
+    ensures is { (p q : App) → IsCommand p program.entry → IfOk made.entry (IsCommand q)
+        → IfOk result (IsCommand (with_subcommand p q.top)) }
+{
+    match made {
+        Ok(command) => program.subcommand(command),
+        Err(error) => {
+            drop(program);
+            Err(error)
+        }
+    }
+}
+
+/// A program with one more command, where both could be made.
+fn with_one_more<'a>(
+    program: Result<Command<'a>, AllocError>,
+    made: Result<Command<'a>, AllocError>,
+) -> Result<Command<'a>, AllocError>
+    ensures is { (p q : App) → IfOk program.entry (IsCommand p) → IfOk made.entry (IsCommand q)
+        → IfOk result (IsCommand (with_subcommand p q.top)) }
+{
+    match program {
+        Ok(program) => one_more(program, made),
+        Err(error) => {
+            drop(made);
+            Err(error)
+        }
+    }
 }
 
 fn with_exec<'a>(alloc: Global) -> Result<Command<'a>, AllocError>
     ensures is { IfOk result (IsCommand with_exec) }
 {
-    let program = bare_program(alloc);
-    program.subcommand(exec_command(alloc)?)
+    one_more(bare_program(alloc), exec_command(alloc))
 }
 
 fn with_compile<'a>(alloc: Global) -> Result<Command<'a>, AllocError>
     ensures is { IfOk result (IsCommand with_compile) }
 {
-    let program = with_exec(alloc)?;
-    program.subcommand(compile_command(alloc)?)
+    with_one_more(with_exec(alloc), compile_command(alloc))
 }
 
 fn with_show<'a>(alloc: Global) -> Result<Command<'a>, AllocError>
     ensures is { IfOk result (IsCommand with_show) }
 {
-    let program = with_compile(alloc)?;
-    program.subcommand(show_command(alloc)?)
+    with_one_more(with_compile(alloc), show_command(alloc))
 }
 
 fn with_cores<'a>(alloc: Global) -> Result<Command<'a>, AllocError>
     ensures is { IfOk result (IsCommand with_cores) }
 {
-    let program = with_show(alloc)?;
-    program.subcommand(cores_command(alloc)?)
+    with_one_more(with_show(alloc), cores_command(alloc))
 }
 
 fn with_chart<'a>(alloc: Global) -> Result<Command<'a>, AllocError>
     ensures is { IfOk result (IsCommand with_chart) }
 {
-    let program = with_cores(alloc)?;
-    program.subcommand(chart_command(alloc)?)
+    with_one_more(with_cores(alloc), chart_command(alloc))
 }
 
 fn command<'a>(alloc: Global) -> Result<Command<'a>, AllocError>
     ensures is { IfOk result (IsCommand program) }
 {
-    let program = with_chart(alloc)?;
-    program.subcommand(header_command(alloc)?)
+    with_one_more(with_chart(alloc), header_command(alloc))
 }
 
 /// Whether an option without a value is there.
@@ -619,6 +649,20 @@ fn request_by<'a, S: AsStr>(command: &mut Command<'a>, words: &'a [S]) -> Result
     }
 }
 
+// What the words ask for, as this command reads them, which isn't needed any more then.
+fn request_of_program<'a, S: AsStr>(
+    mut command: Command<'a>,
+    words: &'a [S],
+) -> Result<Request<'a>, Error>
+    requires is { IsCommand program command }
+    ensures asked { IfOk result (λ request. asks_for (map S.text words.entry.now) ≡ Some (asked_by request)) }
+    ensures refused { FailsBy (refusals (map S.text words.entry.now)) result }
+{
+    let request = request_by(&mut command, words);
+    drop(command);
+    request
+}
+
 /// What the words ask for; the first is the program's name.
 ///
 /// # Errors
@@ -628,8 +672,7 @@ pub fn read_words<'a, S: AsStr>(alloc: Global, words: &'a [S]) -> Result<Request
     ensures asked { IfOk result (λ request. asks_for (map S.text words.entry.now) ≡ Some (asked_by request)) }
     ensures refused { FailsBy (refusals (map S.text words.entry.now)) result }
 {
-    let mut command = command(alloc)?;
-    request_by(&mut command, words)
+    request_of_program(command(alloc)?, words)
 }
 
 // Whether a word asks for a command that is given a file.

@@ -1,11 +1,5 @@
-use Rattle.std.proofs.lemmas.Result.{IfOk-weaker}
 use Rattle.flounder_args.specs.Words.{with_cores, chart_command}
-use Rattle.flounder_args.proofs.Asking.{with_one_more}
 use Rattle.flounder_args.proofs.words.with_chart.Goals as goal
 
 pub returns : goal.returns
-returns c = record {
-  is = IfOk-weaker c.subcommand.result _ _
-      (λ r h. with_one_more c.in_ok-program.program c.in_ok-chart_command.field-0 r with_cores chart_command c.in_ok-program.ensures.is c.in_ok-chart_command.ensures.is h)
-      c.subcommand.ensures;
-}
+returns c = record { is = c.with_one_more.ensures.is with_cores chart_command c.with_cores.ensures.is c.chart_command.ensures.is }

@@ -1,7 +1,7 @@
 use Rattle.std.proofs.Common.{◌∙◌, ap}
 use Rattle.clap.specs.Words.{rule_of}
 use Rattle.flounder_args.proofs.Making.{is_global, wanted}
-use Rattle.flounder_args.proofs.words.out_argument.Goals as goal
+use Rattle.flounder_args.proofs.words.required_argument.Goals as goal
 
 pub returns : goal.returns
 returns c = record {

@@ -1,4 +1,0 @@
-use Rattle.flounder_args.proofs.words.compile_with_file.Goals as goal
-
-pub returns : goal.returns
-returns c = record { is = c.with_file.ensures.is }
