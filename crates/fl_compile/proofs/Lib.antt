@@ -19,4 +19,5 @@ pub mod Compiling
 pub mod Cases
 pub mod Packs
 pub mod Spreading
+pub mod Alike
 pub mod Prepared

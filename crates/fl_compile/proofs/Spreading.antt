@@ -10,6 +10,7 @@ use Rattle.fl_value_data.specs.Fits.{fits_of, fit_message, is_argument, are_argu
 use Rattle.fl_value_data.specs.Plan.{arranged}
 use Rattle.fl_value_data.specs.Tape.{Argument, kind, tape_of_argument, tape_of, types_of}
 use Rattle.fl_wire.specs.Payload.{payload_of}
+use Rattle.fl_stub.specs.declared.op.Column.{Column}
 use Rattle.fl_stub.specs.declared.op.Column.TheVariants.{Send}
 use Rattle.fl_compile.specs.declared.arguments.ArgOffset.TheVariants.{At}
 use Rattle.fl_compile.specs.Compiled.{arguments_block, in_order, message_block}
@@ -76,7 +77,7 @@ spreads_calls plan i m c has fits =
 
 -- a program's prepared code makes the payload
 steps_make : (p : TheProgram) (c : TheCall) (steps : TheSteps) (o : Option TheMessage) → is_within_limits p.interface ≡ true → interface_words_fit p.interface ≡ true
-    → fits_of p.interface c ≡ true → IsPrepared p c.msg steps → slice_get p.interface.messages c.msg ≡ o
+    → fits_of p.interface c ≡ true → IsPrepared Send p c.msg steps → slice_get p.interface.messages c.msg ≡ o
     → steps_done steps (spread_first (packed_of p.plan p.interface c)) ≡ record { given = payload_of p.plan p.interface c; left = [] }
 steps_make p c steps None within words fits prepared e = absurd (false≢true (subst (λ (o : Option TheMessage). fit_message o c.args ≡ true) e fits))
 steps_make p c steps (Some m) within words fits prepared e =
@@ -84,7 +85,7 @@ steps_make p c steps (Some m) within words fits prepared e =
     ∙ spreads_calls p.plan p.interface m c (record { within = within; words = words; message = e }) fits
 
 pub makes_payload : (p : TheProgram) (c : TheCall) (steps : TheSteps) (old packed : List ℕ) → is_within_limits p.interface ≡ true → interface_words_fit p.interface ≡ true
-    → fits_of p.interface c ≡ true → IsPrepared p c.msg steps → old ≡ [] → packed ≡ packed_of p.plan p.interface c
+    → fits_of p.interface c ≡ true → IsPrepared Send p c.msg steps → old ≡ [] → packed ≡ packed_of p.plan p.interface c
     → (steps_done steps (record { given = old; left = packed })).given ≡ payload_of p.plan p.interface c
 makes_payload p c steps old packed within words fits prepared none is =
     ap (λ (g : List ℕ). (steps_done steps (record { given = g; left = packed })).given) none
@@ -93,7 +94,7 @@ makes_payload p c steps old packed within words fits prepared none is =
 
 -- where it puts nothing between the tape's bytes, the tape is the payload
 pub plain_payload : (p : TheProgram) (c : TheCall) (steps : TheSteps) → is_within_limits p.interface ≡ true → interface_words_fit p.interface ≡ true
-    → fits_of p.interface c ≡ true → IsPrepared p c.msg steps → IsPlain steps → packed_of p.plan p.interface c ≡ payload_of p.plan p.interface c
+    → fits_of p.interface c ≡ true → IsPrepared Send p c.msg steps → IsPlain steps → packed_of p.plan p.interface c ≡ payload_of p.plan p.interface c
 plain_payload p c steps within words fits prepared plain =
     sym (plain (packed_of p.plan p.interface c))
     ∙ ap all_of (steps_make p c steps (slice_get p.interface.messages c.msg) within words fits prepared refl)
@@ -102,16 +103,20 @@ plain_payload p c steps within words fits prepared plain =
 the_same : (a b : TheCode) → Some a ≡ Some b → a ≡ b
 the_same a b e = cc
 
--- the prepared code that a program has of a call's message
-pub prepared_is : (p : TheProgram) (c : TheCall) (code : PreparedCode) → is_within_limits p.interface ≡ true → interface_words_fit p.interface ≡ true
-    → Prepares (code_in Send p c.msg) code → IsPrepared p c.msg (steps_in code)
-prepared_is p c code within words prepares m e x =
+-- the prepared code that a program has of a call's message, of either column
+pub prepared_for : (column : Column) (p : TheProgram) (c : TheCall) (code : PreparedCode) → is_within_limits p.interface ≡ true → interface_words_fit p.interface ≡ true
+    → Prepares (code_in column p c.msg) code → IsPrepared column p c.msg (steps_in code)
+prepared_for column p c code within words prepares m e x =
     let (d, has, means) = prepares in
-    let told : code_in Send p c.msg ≡ Some (compiled_code Send p.plan m) = ap (option_map (compiled_code Send p.plan)) e in
-    let its : d ≡ compiled_code Send p.plan m = the_same d (compiled_code Send p.plan m) (sym has ∙ told) in
-    let is = structure_is Send (message_code Send p.plan m) (message_block Send p.plan m)
-    (compiles_to_code Send p.plan p.interface c.msg m (record { within = within; words = words; message = e })) in
+    let told : code_in column p c.msg ≡ Some (compiled_code column p.plan m) = ap (option_map (compiled_code column p.plan)) e in
+    let its : d ≡ compiled_code column p.plan m = the_same d (compiled_code column p.plan m) (sym has ∙ told) in
+    let is = structure_is column (message_code column p.plan m) (message_block column p.plan m)
+    (compiles_to_code column p.plan p.interface c.msg m (record { within = within; words = words; message = e })) in
     subst (λ (o : TheCode). Means (steps_in code) (block_of o.ops)) its means x ∙ ap (λ (b : Block). block_spread b x) is
+
+pub prepared_is : (p : TheProgram) (c : TheCall) (code : PreparedCode) → is_within_limits p.interface ≡ true → interface_words_fit p.interface ≡ true
+    → Prepares (code_in Send p c.msg) code → IsPrepared Send p c.msg (steps_in code)
+prepared_is p c code within words prepares = prepared_for Send p c code within words prepares
 
 -- a fitting call's message has code
 has_code : (p : TheProgram) (c : TheCall) (o : Option TheMessage) → fit_message o c.args ≡ true → option_map (compiled_code Send p.plan) o ≡ None → ⊥

@@ -1,7 +1,7 @@
 //! What the compiler's code does: laws, as the contracts of functions that do nothing.
 
 ghost use Rattle.fl_compile.specs.Laws.{SendsCalls, TakesCalls, CompilesToCode, TellsFaults, OneFault, OneRefusal};
-ghost use Rattle.fl_compile.specs.PackedLaws.{PacksCalls, SpreadsCalls};
+ghost use Rattle.fl_compile.specs.PackedLaws.{PacksCalls, SpreadsCalls, CodesMoveAlike};
 
 /// The send code of a message turns the tape of each fitting call into the call's payload.
 pub fn law_sends_calls()
@@ -38,4 +38,10 @@ pub fn law_one_fault()
 pub fn law_spreads_calls()
     ensures packs { PacksCalls }
     ensures spreads { SpreadsCalls }
+{}
+
+/// The receive code of a message makes of a packed tape what its send code makes of it: so steps that mean the one mean
+/// the other.
+pub fn law_codes_move_alike()
+    ensures alike { CodesMoveAlike }
 {}

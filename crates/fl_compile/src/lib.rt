@@ -20,7 +20,7 @@ mod types;
 
 pub use compiler::compile;
 pub use law::{
-    law_compiles_to_code, law_one_fault, law_sends_calls, law_spreads_calls, law_takes_calls,
-    law_tells_faults,
+    law_codes_move_alike, law_compiles_to_code, law_one_fault, law_sends_calls, law_spreads_calls,
+    law_takes_calls, law_tells_faults,
 };
 pub use program::Program;

@@ -86,9 +86,12 @@ impl Program {
         }
     }
 
-    /// The send code of a message as larger steps; none where the interface has no such message.
+    /// The send code of a message as larger steps, which mean its receive code as well; none where the interface has no
+    /// such message.
     pub fn prepared_code(&self, msg: MsgNo) -> Option<&PreparedCode>
         ensures means { IfSome result (λ prepared. Prepares (code_in Send (program_of self.now) msg.0) prepared.now) }
+        ensures receives { IfSome result (λ prepared.
+            Prepares (code_in Receive (program_of self.now) msg.0) prepared.now) }
         ensures none { IfNone result (code_in Send (program_of self.now) msg.0 ≡ None) }
     {
         match self.compiled.prepared.get(usize::from(msg.0)) {

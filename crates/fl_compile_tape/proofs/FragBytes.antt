@@ -1,19 +1,24 @@
 -- The bytes of a call's fragments are its payload and zeros.
-use Rattle.std.proofs.Common.{◌≡◌, ℕ, zero, suc, ◌+◌, ◌-◌, ◌*◌, ◌%◌, ◌<◌, ◌≤◌, List, [], ◌∷◌, ◌++◌, length, map, take, get_or, refl, sym, ◌∙◌, ap, arith, append_assoc}
-use Rattle.std.specs.Prelude.{slice_index}
+use Rattle.std.proofs.Common.{◌≡◌, ℕ, zero, suc, ◌+◌, ◌-◌, ◌*◌, ◌%◌, ◌<◌, ◌≤◌, true, List, [], ◌∷◌, ◌++◌, length, map, take, get_or, refl, sym, ◌∙◌, ap, subst, arith, append_assoc}
+use Rattle.std.specs.Prelude.{Option, Some, None, slice_get, slice_index}
 use Rattle.std.specs.List.{range_with_len, flat_map}
 use Rattle.std.specs.Int.{to_le_bytes, w64}
+use Rattle.std.proofs.lemmas.Bool.{false≢true}
 use Rattle.std.proofs.lemmas.Nat.{le_bytes_8}
 use Rattle.std.proofs.lemmas.List.{append-nil, take_more}
 use Rattle.std.proofs.lemmas.List.Concat.{flat_map-append}
 use Rattle.std.proofs.lemmas.List.FromFn.{length-map-range_with_len, fill_by_all}
 use Rattle.fl_base.specs.declared.fragment.Frag.{Frag}
+use Rattle.fl_interface.specs.Interface.{TheMessage}
+use Rattle.fl_interface.specs.Limits.{is_within_limits}
 use Rattle.fl_value_data.specs.Value.{TheCall}
+use Rattle.fl_value_data.specs.Fits.{fits_of, fit_message}
 use Rattle.fl_layout.specs.Leaves.{leaves}
-use Rattle.fl_layout.specs.Places.{count_for, count}
+use Rattle.fl_layout.specs.Places.{size, count_for, count}
+use Rattle.fl_layout.proofs.BothPlans.{length_small}
 use Rattle.fl_wire.specs.Payload.{payload_of, word, frag_on}
 use Rattle.fl_wire.proofs.Bytes.{length_payload}
-use Rattle.fl_wire.proofs.Readings.{window_small, all_small}
+use Rattle.fl_wire.proofs.Readings.{window_small, all_small, length_frags}
 use Rattle.fl_compile.specs.Programs.{TheProgram}
 use Rattle.fl_compile_tape.specs.TapeLaws.{HasPayload}
 use Rattle.fl_compile_tape.specs.Frags.{frag_bytes, HasFrags}
@@ -86,6 +91,27 @@ payload_first p msg frags bytes c is h =
           ∙ ap (λ (a : ℕ). window payload 0 long ++ window payload a (56 * many - long)) from ∙ ap (λ (l : List ℕ). l ++ after) first;
       eights = eights (length bytes) many (ap length all ∙ length-map-range_with_len (slice_index payload) 0 (56 * many));
     }
+
+-- ---- how many they are
+
+-- so few bytes take few
+few_for : (n : ℕ) → n ≤ 32768 → count_for n ≤ 586
+few_for n small = omega (arith, small)
+
+-- a fitting call's payload is so short, by the message that it has
+short_payload : (p : TheProgram) (c : TheCall) (o : Option TheMessage) → is_within_limits p.interface ≡ true → fits_of p.interface c ≡ true → slice_get p.interface.messages c.msg ≡ o
+    → size (leaves p.plan p.interface c) ≤ 32768
+short_payload p c None within fits e = absurd (false≢true (subst (λ (o : Option TheMessage). fit_message o c.args ≡ true) e fits))
+short_payload p c (Some m) within fits e = length_small p.plan p.interface c.msg m c within e (record { fits = fits; names = refl })
+
+-- a fitting call has at most 586
+pub few_frags : (p : TheProgram) (msg : ℕ) (frags : List Frag) (c : TheCall) → is_within_limits p.interface ≡ true → HasFrags p msg frags c → length frags ≤ 586
+few_frags p msg frags c within h =
+    let short = short_payload p c (slice_get p.interface.messages c.msg) within h.fits refl in
+    let few : count p.plan p.interface c ≤ 586 = few_for (size (leaves p.plan p.interface c)) short in
+    omega (arith, few, ap length h.frags_are, length_frags p.plan p.interface c)
+
+-- ---- put one after another
 
 -- one thing more
 pub flat_more : {A : Type 0} (f : A → List ℕ) (xs : List A) (k : ℕ) (x : A) (old put new : List ℕ) → k < length xs → x ≡ get_or xs k x → put ≡ old ++ flat_map f (take k xs) → new ≡ put ++ f x

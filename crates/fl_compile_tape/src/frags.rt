@@ -58,12 +58,10 @@ fn emptied(used: Vec<u8>, size: usize) -> Result<Vec<u8>, AllocError>
 // The bytes of fragments, one after another, in memory that is used again.
 #[inline(always)]
 fn bytes_of(used: Vec<u8>, frags: &[Frag]) -> Result<Vec<u8>, AllocError>
+    requires few { length frags.now ≤ 586 }
     ensures bytes { IfOk result (λ bytes. bytes.items ≡ flat_map frag_bytes frags.now) }
 {
-    let Some(size) = frags.len().checked_mul(FRAG_BYTES) else {
-        return Err(AllocError);
-    };
-    let mut bytes = emptied(used, size)?;
+    let mut bytes = emptied(used, frags.len() * FRAG_BYTES)?;
     for frag in frags {
         push_words(&mut bytes, &frag.words);
     }
@@ -73,6 +71,7 @@ fn bytes_of(used: Vec<u8>, frags: &[Frag]) -> Result<Vec<u8>, AllocError>
 // Puts the bytes of fragments, one after another, in the place of what stood there.
 #[inline(always)]
 fn put_bytes(alloc: Global, bytes: &mut Vec<u8>, frags: &[Frag]) -> Result<(), AllocError>
+    requires few { length frags.now ≤ 586 }
     ensures bytes { OnOk result (bytes.new.items ≡ flat_map frag_bytes frags.now) }
 {
     let used = mem::replace(bytes, Vec::new(alloc));

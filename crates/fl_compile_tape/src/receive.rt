@@ -47,10 +47,10 @@ fn chosen<'p>(first: bool, one: &'p [u8], other: &'p [u8]) -> &'p [u8]
     if first { one } else { other }
 }
 
-/// The call of a message whose payload the bytes begin with, where they are known to begin with a fitting call's and are a multiple
-/// of 8, as those of whole fragments: taken by its message's prepared code, which takes back what it gives. Where the code puts
-/// nothing between a tape's bytes, the payload is read as it is; else the packed tape takes the place of what stood on `tape`, in its
-/// memory where there is enough.
+/// The call of a message whose payload the bytes begin with, where they are known to begin with a fitting call's and
+/// are a multiple of 8, as those of whole fragments: taken by its message's prepared code, which means its receive
+/// code. Where this puts nothing between a tape's bytes, the payload is read as it is; else the packed tape takes the
+/// place of what stood on `tape`, in its memory where there is enough.
 ///
 /// # Errors
 /// Out of memory (E99), and nothing else.

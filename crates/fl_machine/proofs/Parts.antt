@@ -15,12 +15,12 @@ use Rattle.fl_wire.specs.Payload.{frags_of}
 use Rattle.fl_wire.proofs.Readings.{count_positive, length_frags}
 use Rattle.fl_wire.proofs.Decoding.{prefix_message}
 use Rattle.fl_compile.specs.Programs.{TheProgram}
-use Rattle.fl_compile_tape.specs.Frags.{HasFrags as FragsOfCall}
+use Rattle.fl_compile_tape.specs.Frags.{HasFrags}
 use Rattle.fl_machine.specs.declared.intake.Fed.{Fed}
 use Rattle.fl_machine.specs.declared.intake.Fed.TheVariants.{Part}
 use Rattle.fl_machine.specs.declared.recv.PartialCall.{PartialCall}
 use Rattle.fl_machine.specs.Receiving.{HoldsParts, StandsIn, AddsUpTo, stand_after}
-use Rattle.fl_machine.specs.Kept.{counting, IsKeptIn, IsPartIn, EndsCallIn, HasFrags}
+use Rattle.fl_machine.specs.Kept.{counting, IsKeptIn, IsPartIn, EndsCallIn}
 use Rattle.fl_machine.specs.Reassembling.{IsUnderWay, GoesOnFrom, parts_under}
 use Rattle.fl_machine.proofs.Feeding.{few_messages}
 use Rattle.fl_machine.proofs.Looking.{forgotten, kept_length}
@@ -73,8 +73,9 @@ stored_last p room g b n under is =
 
 -- all fragments of the call
 pub whole_frags : (p : TheProgram) (room : List Frag) (f g : Frag) (b : PartialCall) (n : ℕ) → n ≡ b.fed → g ≡ bare f → b.fed < length room → (e : EndsCallIn p (parts_under room (Some b)) f)
-    → HasFrags p e.call (take (n + 1) (slice_set room n g))
+    → HasFrags p e.call.msg (take (n + 1) (slice_set room n g)) e.call
 whole_frags p room f g b n at is within e = record {
+  message = refl;
   fits = e.fits;
   frags_are = take_more_set room n g (omega (arith, at, within)) ∙ ap (λ (m : ℕ). take m room ++ g ∷ []) at
       ∙ ap (λ (h : Frag). take b.fed room ++ h ∷ []) is ∙ e.frags_are;
@@ -86,13 +87,13 @@ named_message None ds h = absurd (false≢true h)
 named_message (Some m) ds h = (m, refl)
 
 -- a call's fragments are at least one
-pub no_first : (p : TheProgram) (frags : List Frag) → None ≡ slice_get frags 0 → ((c : TheCall) × HasFrags p c frags) → ⊥
+pub no_first : (p : TheProgram) (frags : List Frag) → None ≡ slice_get frags 0 → ((c : TheCall) × HasFrags p c.msg frags c) → ⊥
 no_first p [] none (c, has) = absurd (omega (arith, count_positive p.plan p.interface c, ap length has.frags_are, length_frags p.plan p.interface c))
 no_first p (f ∷ fs) none has = none-some f none
 
 -- they are of the message that the first one tells
-pub frags_told : (p : TheProgram) (frags : List Frag) (f : Frag) (msg : ℕ) (c : TheCall) → is_within_limits p.interface ≡ true → Some f ≡ slice_get frags 0 → msg ≡ message_of f.control → HasFrags p c frags
-    → FragsOfCall p msg frags c
+pub frags_told : (p : TheProgram) (frags : List Frag) (f : Frag) (msg : ℕ) (c : TheCall) → is_within_limits p.interface ≡ true → Some f ≡ slice_get frags 0 → msg ≡ message_of f.control → HasFrags p c.msg frags c
+    → HasFrags p msg frags c
 frags_told p frags f msg c within here told has =
     let n = count p.plan p.interface c in
     let (m, named) = named_message (slice_get p.interface.messages c.msg) c.args has.fits in

@@ -44,11 +44,6 @@ IsPartIn p frags = IsPart p.plan p.interface frags
 abbrev pub EndsCallIn : TheProgram → List Frag → Frag → Type 0
 EndsCallIn p parts f = EndsCall p.plan p.interface parts f
 
--- a fitting call, and its fragments
-pub record HasFrags (p : TheProgram) (c : TheCall) (frags : List Frag) : Type 0 where
-  pub fits : fits_of p.interface c ≡ true
-  pub frags_are : frags ≡ frags_of p.plan p.interface c
-
 -- what a fragment comes to behind the parts of a call, whichever they are: the call goes on
 abbrev pub GoesOn : TheProgram → PartialCall → Frag → PartialCall → Type 0
 GoesOn p b f d = (parts : List Frag) → IsKeptIn p parts b → IsPartIn p (parts ++ f ∷ []) × IsKeptIn p (parts ++ bare f ∷ []) d

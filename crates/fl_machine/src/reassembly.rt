@@ -3,9 +3,10 @@
 ghost use Rattle.std.specs.Prelude.{◌≡◌, ◌<◌, ◌≤◌, [], length, Option, IsSome, Some, None, IfOk};
 ghost use Rattle.fl_value_data.specs.Value.{TheCall, call_of};
 ghost use Rattle.fl_compile.specs.Programs.{program_of};
+ghost use Rattle.fl_compile_tape.specs.Frags.{HasFrags};
 ghost use Rattle.fl_machine.specs.Faults.{take_number};
 ghost use Rattle.fl_machine.specs.Receiving.{HoldsParts, StandsIn, AddsUpTo};
-ghost use Rattle.fl_machine.specs.Kept.{EndsCallIn, HasFrags};
+ghost use Rattle.fl_machine.specs.Kept.{EndsCallIn};
 ghost use Rattle.fl_machine.specs.declared.recv.PartialCall.{PartialCall};
 ghost use Rattle.fl_machine.specs.Receiving.{After as after};
 ghost use Rattle.fl_machine.specs.Reassembling.{Takes, IsUnderWay, GoesOnFrom};
@@ -120,8 +121,9 @@ fn read(
     frags: &[Frag],
     reading: &mut ReadingRoom,
 ) -> Result<Call, AllocError>
-    requires whole { (call : TheCall) × HasFrags (program_of program.now) call frags.now }
-    ensures call { IfOk result (λ call. (c : TheCall) → HasFrags (program_of program.now) c frags.now → call_of call ≡ c) }
+    requires whole { (call : TheCall) × HasFrags (program_of program.now) call.msg frags.now call }
+    ensures call { IfOk result (λ call. (c : TheCall) → HasFrags (program_of program.now) c.msg frags.now c
+        → call_of call ≡ c) }
 {
     let Some(first) = frags.first() else {
         unreachable!();

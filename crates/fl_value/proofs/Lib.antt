@@ -5,7 +5,6 @@ pub mod Nested
 pub mod Words
 pub mod Prints
 pub mod Begun
-pub mod CallStarts
 pub mod Round
 pub mod Resolved
 pub mod Spans

@@ -49,6 +49,14 @@ not_memory r h e =
     let same : (let x : Result TheCall ValueFault = Err Memory in x) ≡ Err NoSuchMessage = sym h ∙ e in
     absurd (cc)
 
+-- want of memory may be told where this holds
+pub wants_if : {T : Type 0} (r : Result T ValueFault) (P : Type 0) → P → IfErr r (λ e. WantsMemory e P)
+wants_if (Ok x) P p = tt
+wants_if (Err NotACall) P p = tt
+wants_if (Err NoSuchMessage) P p = tt
+wants_if (Err DoesNotFit) P p = tt
+wants_if (Err Memory) P p = p
+
 -- what a name and values come to is never want of memory
 pub wants_resolved : (i : TheInterface) (bytes name : List ℕ) (values : List Datum) (r : Result Call ValueFault) → SpellsCall bytes name values
     → Answers r (resolved i name values) → IfErr r (λ e. WantsMemory e (IsOfMessage i bytes))

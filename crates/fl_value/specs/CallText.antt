@@ -132,17 +132,6 @@ pub record SpellsCall (bytes name : List ℕ) (values : List Datum) : Type 0 whe
   pub ends : Blanks end []
   pub nested : greatest_depth (data_from values) ≤ 20
 
--- the bytes begin as a call's text does: a name stands, and an opening parenthesis behind it
-pub record BeginsCall (bytes : List ℕ) : Type 0 where
-  pub start : List ℕ
-  pub name : List ℕ
-  pub after : List ℕ
-  pub inside : List ℕ
-  pub before : Blanks bytes start
-  pub word : is_name name ≡ true
-  pub named : start ≡ name ++ after
-  pub opens : Token (a_mark 40) after inside
-
 -- the bytes spell a call
 abbrev pub IsCall : List ℕ → Type 0
 IsCall bytes = (name : List ℕ) × (values : List Datum) × SpellsCall bytes name values

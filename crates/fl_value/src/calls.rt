@@ -4,7 +4,7 @@ ghost use Rattle.std.specs.Prelude.{Result, Err, ◌≡◌, ℕ, ◌++◌, List,
 ghost use Rattle.fl_interface.specs.Interface.{interface_of, message_of};
 ghost use Rattle.fl_value_data.specs.Value.{Datum, TheCall, datum_of};
 ghost use Rattle.fl_lex.specs.Words.{is_word_byte, is_name};
-ghost use Rattle.fl_value.specs.CallText.{StopsAt, SpellsCall, BeginsCall, IsCall};
+ghost use Rattle.fl_value.specs.CallText.{StopsAt, SpellsCall, IsCall};
 ghost use Rattle.fl_value.specs.declared.fault.ValueFault.{ValueFault};
 ghost use Rattle.fl_value.specs.Fault.{Refuses, WantsMemory};
 ghost use Rattle.fl_value.specs.Resolve.{named_from, where_fitting, resolved, message_number, Answers, AnswersUnlessMemory, ComesTo, IsOfMessage, ReadsAs};
@@ -58,8 +58,7 @@ pub(crate) fn read_word(bytes: &[u8]) -> Option<(&[u8], &[u8])>
 ///
 /// # Errors
 ///
-/// `NotACall` where the bytes spell no call, and `Memory`, only behind a name and an opening parenthesis: whether they spell a call
-/// tells [`spoken_name`] then.
+/// `NotACall` where the bytes spell no call, and `Memory`, only where they spell one.
 pub fn read_spoken(
     alloc: Global,
     bytes: &[u8],
@@ -67,7 +66,7 @@ pub fn read_spoken(
 ) -> Result<(&[u8], Vec<Value>), ValueFault>
     ensures found { IfOk result (λ t. SpellsCall bytes.now t.0.now (map datum_of t.1.items)) }
     ensures fault { IfErr result (λ e. Refuses e ((name : List ℕ) (values : List Datum) → SpellsCall bytes.now name values → ⊥)) }
-    ensures begun { IfErr result (λ e. WantsMemory e (BeginsCall bytes.now)) }
+    ensures call { IfErr result (λ e. WantsMemory e (IsCall bytes.now)) }
 {
     let Some((name, after)) = read_word(skip_blanks(bytes)) else {
         return Err(ValueFault::NotACall);
@@ -75,7 +74,11 @@ pub fn read_spoken(
     let Some(inside) = read_mark(after, b'(') else {
         return Err(ValueFault::NotACall);
     };
-    let (args, end) = read_values(alloc, inside, b')', MAX_DEPTH, room)?;
+    let (args, end) = match read_values(alloc, inside, b')', MAX_DEPTH, room) {
+        Ok(found) => found,
+        Err(ValueFault::NotACall) => return Err(ValueFault::NotACall),
+        Err(_) => return Err(without_values(bytes)),
+    };
     if !skip_blanks(end).is_empty() {
         return Err(ValueFault::NotACall);
     }
@@ -95,20 +98,6 @@ fn without_values(bytes: &[u8]) -> ValueFault
     ValueFault::Memory
 }
 
-// What a call's text spells. Memory is wanting only where it spells something.
-fn read_parts(alloc: Global, bytes: &[u8]) -> Result<(&[u8], Vec<Value>), ValueFault>
-    ensures found { IfOk result (λ t. SpellsCall bytes.now t.0.now (map datum_of t.1.items)) }
-    ensures fault { IfErr result (λ e. Refuses e ((name : List ℕ) (values : List Datum) → SpellsCall bytes.now name values → ⊥)) }
-    ensures call { IfErr result (λ e. WantsMemory e (IsCall bytes.now)) }
-{
-    let room = Vec::new(alloc);
-    match read_spoken(alloc, bytes, room) {
-        Ok(found) => Ok(found),
-        Err(ValueFault::NotACall) => Err(ValueFault::NotACall),
-        Err(_) => Err(without_values(bytes)),
-    }
-}
-
 /// What a call's text spells, as of [`read_spoken`], with a copy of the name.
 ///
 /// # Errors
@@ -119,7 +108,7 @@ pub fn read_call_text(alloc: Global, bytes: &[u8]) -> Result<CallText, ValueFaul
     ensures fault { IfErr result (λ e. Refuses e ((name : List ℕ) (values : List Datum) → SpellsCall bytes.now name values → ⊥)) }
     ensures call { IfErr result (λ e. WantsMemory e (IsCall bytes.now)) }
 {
-    let (name, args) = read_parts(alloc, bytes)?;
+    let (name, args) = read_spoken(alloc, bytes, Vec::new(alloc))?;
     let bytes = Vec::from_slice(alloc, name)?;
     let name = Word { bytes };
     Ok(CallText { name, args })

@@ -5,8 +5,14 @@ use Rattle.fl_value_data.specs.Value.{TheCall, call_of}
 use Rattle.fl_compile.specs.Programs.{program_of}
 use Rattle.fl_compile_tape.specs.TapeLaws.{HasPayload}
 use Rattle.fl_compile_tape.specs.Frags.{frag_bytes, HasFrags}
-use Rattle.fl_compile_tape.proofs.FragBytes.{payload_first}
+use Rattle.fl_compile_tape.proofs.FragBytes.{payload_first, few_frags}
 use Rattle.fl_compile_tape.proofs.frags.call_of_frags.Goals as goal
+
+pub put_bytes-requires : goal.put_bytes-requires
+put_bytes-requires c =
+    let p = c.args.program.now in
+    let (call, has) = c.requires.known in
+    record { few = few_frags (program_of p) c.args.msg.0 c.args.frags.now call p.compiled.value.plans.interface.within has }
 
 pub call_by-requires : goal.call_by-requires
 call_by-requires c =

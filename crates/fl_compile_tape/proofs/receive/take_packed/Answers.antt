@@ -15,7 +15,7 @@ returns-then-is_plain c =
     let within : is_within_limits p.interface ≡ true = subst (λ (i : TheInterface). is_within_limits i ≡ true) c.interface-interface.ensures.interface c.interface-interface.result.now.within in
     let words : interface_words_fit p.interface ≡ true = subst (λ (i : TheInterface). interface_words_fit i ≡ true) c.interface-interface.ensures.interface c.interface-interface.ensures.words in
     let plain = c.is_plain.ensures.plain (search (rules, c.if-is_plain.true)) in
-    record { packed = λ call has. packed_plain p c.args.msg.0 c.in-Some.code.now c.args.payload.now call within words c.in-Some.ensures.means plain has }
+    record { packed = λ call has. packed_plain p c.args.msg.0 c.in-Some.code.now c.args.payload.now call within words c.in-Some.ensures.receives plain has }
 
 pub returns : goal.returns
 returns c =
@@ -24,6 +24,6 @@ returns c =
     let words : interface_words_fit p.interface ≡ true = subst (λ (i : TheInterface). interface_words_fit i ≡ true) c.interface-interface.ensures.interface c.interface-interface.ensures.words in
     record {
       packed = λ call has.
-          packed_taken p c.args.msg.0 c.in-Some.code.now c.args.payload.now c.reserve.new.self.items c.take.new.tape.items c.in_ok-_left._left.now call within words c.in-Some.ensures.means
+          packed_taken p c.args.msg.0 c.in-Some.code.now c.args.payload.now c.reserve.new.self.items c.take.new.tape.items c.in_ok-_left._left.now call within words c.in-Some.ensures.receives
           (c.in_ok-reserve.ensures.items ∙ c.clear.ensures.items) c.in_ok-_left.ensures.taken has;
     }

@@ -2,8 +2,7 @@ use Rattle.std.proofs.Common.{◌≡◌}
 use Rattle.std.proofs.lemmas.Result.{IfOk-weaker}
 use Rattle.fl_value_data.specs.Value.{TheCall, call_of}
 use Rattle.fl_compile.specs.Programs.{program_of}
-use Rattle.fl_compile_tape.specs.Frags.{HasFrags as FragsOfCall}
-use Rattle.fl_machine.specs.Kept.{HasFrags}
+use Rattle.fl_compile_tape.specs.Frags.{HasFrags}
 use Rattle.fl_machine.proofs.Parts.{no_first, frags_told}
 use Rattle.fl_machine.proofs.reassembly.read.Goals as goal
 
@@ -21,8 +20,8 @@ returns c =
     let p = c.args.program.now in
     let frags = c.args.frags.now in
     record {
-      call = IfOk-weaker c.call_of_frags.result (λ call. (d : TheCall) → FragsOfCall (program_of p) c.msg-msg.result.0 frags d → call_of call ≡ d)
-          (λ call. (d : TheCall) → HasFrags (program_of p) d frags → call_of call ≡ d)
+      call = IfOk-weaker c.call_of_frags.result (λ call. (d : TheCall) → HasFrags (program_of p) c.msg-msg.result.0 frags d → call_of call ≡ d)
+          (λ call. (d : TheCall) → HasFrags (program_of p) d.msg frags d → call_of call ≡ d)
           (λ call one d has. one d (frags_told (program_of p) frags c.in-Some.first.now c.msg-msg.result.0 d p.compiled.value.plans.interface.within c.in-Some.ensures.value c.msg-msg.ensures has))
           c.call_of_frags.ensures.call;
     }

@@ -3,7 +3,7 @@ use Rattle.fl_lex.specs.Words.{is_name}
 use Rattle.std.proofs.lemmas.Result.{err_from_is_err_and}
 use Rattle.fl_value_data.specs.Value.{datum_of}
 use Rattle.fl_value.specs.CallText.{IsCall}
-use Rattle.fl_value.proofs.CallStarts.{wants_if}
+use Rattle.fl_value.proofs.Resolved.{wants_if}
 use Rattle.fl_value.proofs.calls.read_call_text.Goals as goal
 
 pub returns-in_err-name-clause-fault : goal.returns-in_err-name-clause-fault
