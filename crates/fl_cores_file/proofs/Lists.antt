@@ -1,13 +1,13 @@
 -- Lists seen by a function of their elements.
-use Rattle.std.proofs.Common.{◌≡◌, ◌<◌, ◌∙◌, refl, sym, ap, ℕ, zero, suc, ◌+◌, ◌||◌, ◌++◌, append_assoc, arith, Bool, List, [], ◌∷◌}
-use Rattle.std.proofs.Common.{true, false, not, ◌&&◌, if◌then◌else◌, length, map, take, drop, get_or, slice_get, slice_set, Option, Some, None}
+use Rattle.std.proofs.Common.{◌≡◌, ◌<◌, ◌≤◌, ◌∙◌, refl, sym, ap, subst, ℕ, zero, suc, ◌+◌, ◌||◌, ◌++◌, append_assoc, arith, Bool, List, [], ◌∷◌}
+use Rattle.std.proofs.Common.{true, false, not, ◌&&◌, if◌then◌else◌, length, map, take, drop, get_or, slice_get, slice_set, unwrap_or, Option, Some, None}
 use Rattle.std.specs.List.{list_any, flat_map, range_with_len}
 use Rattle.std.proofs.lemmas.Bool.Decides.{nat_tests}
 use Rattle.std.proofs.lemmas.List.{append-nil}
 use Rattle.std.proofs.lemmas.List.Concat.{flat_map-append, flat_map-cons}
 use Rattle.std.proofs.lemmas.List.Folds.{flat_map-map}
 use Rattle.std.proofs.lemmas.List.FromFn.{map-range_with_len_more}
-use Rattle.std.proofs.lemmas.Option.{slice_get_within}
+use Rattle.std.proofs.lemmas.Option.{slice_get_within, slice_get-get_or}
 use Rattle.fl_base.specs.declared.identity.EndId.{EndId}
 use Rattle.fl_base.specs.declared.identity.Side.{Side}
 use Rattle.fl_base.specs.Ends.{other}
@@ -15,11 +15,16 @@ use Rattle.fl_base.specs.Given.{given}
 use Rattle.fl_interface.specs.Interface.{TheMessage}
 use Rattle.fl_interface.specs.SameTypes.{same_arguments}
 use Rattle.fl_value_data.specs.Tape.{types_of}
+use Rattle.fl_value_data.specs.Value.{TheCall}
 use Rattle.fl_model.specs.Calls.{Planned}
 use Rattle.fl_model.specs.Taking.{arguments_of, has_message}
 use Rattle.fl_model.specs.Given.{changed_at}
-use Rattle.fl_cores_file.specs.CoresFile.{Reading, which_opened, numbers_of, with_numbers, file_by, file_left, file_of}
-use Rattle.fl_cores_file.specs.Draft.{Bound, Draft, use_at, is_for_calls, is_for_rules, rule_fault, fault_at}
+use Rattle.fl_cores_file.specs.CoresFile.{Reading, which_opened, numbers_of, numbered, end_by, job_by, with_numbers, file_by, file_left, file_of}
+use Rattle.fl_cores_file.specs.Draft.{Bound, Draft, use_at, is_for_calls, is_for_rules, with_use, call_fault, rule_fault, fault_at, makes_calls, change_use, with_job, makes_call}
+use Rattle.fl_cores_file.specs.Jobs.{Job, opens, replies, calls}
+use Rattle.std.specs.Prelude.{Result}
+use Rattle.fl_cores_file.specs.declared.stop.CoresLineFault.{CoresLineFault}
+use Rattle.fl_cores_file.specs.Verdicts.{LineVerdict, stops, goes_on, Comes}
 
 pub any_map : {X Y : Type 0} (p : Y → Bool) (f : X → Y) (xs : List X) → list_any p (map f xs) ≡ list_any (λ x. p (f x)) xs
 any_map p f [] = refl
@@ -32,16 +37,20 @@ later : {Y : Type 0} (f : Y → Y) (y : Y) (ys : List Y) (n : ℕ) (o : Option Y
 later f y ys n None = refl
 later f y ys n (Some x) = refl
 
-pub map_put : {X Y : Type 0} (v : X → Y) (f : Y → Y) (xs : List X) (n : ℕ) (x y : X) → slice_get xs n ≡ Some x → v y ≡ f (v x)
+map_put : {X Y : Type 0} (v : X → Y) (f : Y → Y) (xs : List X) (n : ℕ) (x y : X) → slice_get xs n ≡ Some x → v y ≡ f (v x)
     → map v (slice_set xs n y) ≡ changed_at n f (map v xs)
 map_put v f [] n x y e h = absurd (cc)
 map_put v f (z ∷ xs) zero x y e h = let same : z ≡ x = cc in ap (λ k. k ∷ map v xs) (h ∙ ap (λ k. f (v k)) (sym same))
 map_put v f (z ∷ xs) (suc n) x y e h = ap (λ ys. v z ∷ ys) (map_put v f xs n x y e h) ∙ sym (later f (v z) (map v xs) n (slice_get (map v xs) n))
 
-pub map_past : {X Y : Type 0} (v : X → Y) (f : Y → Y) (xs : List X) (n : ℕ) → slice_get xs n ≡ None → map v xs ≡ changed_at n f (map v xs)
-map_past v f [] n e = refl
-map_past v f (z ∷ xs) zero e = absurd (cc)
-map_past v f (z ∷ xs) (suc n) e = ap (λ ys. v z ∷ ys) (map_past v f xs n e) ∙ sym (later f (v z) (map v xs) n (slice_get (map v xs) n))
+pub map_put_or : {X Y : Type 0} (v : X → Y) (f : Y → Y) (xs : List X) (n : ℕ) (x y : X) → n < length xs → x ≡ get_or xs n x → v y ≡ f (v x)
+    → map v (slice_set xs n y) ≡ changed_at n f (map v xs)
+map_put_or v f xs n x y h e g = map_put v f xs n x y (slice_get-get_or xs n x h ∙ ap Some (sym e)) g
+
+pub map_behind : {X Y : Type 0} (v : X → Y) (f : Y → Y) (xs : List X) (n : ℕ) → length xs ≤ n → map v xs ≡ changed_at n f (map v xs)
+map_behind v f [] n h = refl
+map_behind v f (z ∷ xs) zero h = absurd (omega (arith, h))
+map_behind v f (z ∷ xs) (suc n) h = ap (λ ys. v z ∷ ys) (map_behind v f xs n (omega (arith, h))) ∙ sym (later f (v z) (map v xs) n (slice_get (map v xs) n))
 
 -- ---- an element found
 
@@ -55,6 +64,25 @@ pub fault_found : (end : EndId) (finds : Bound → Planned → Option ℕ) (d : 
 fault_found end finds d b i p q =
     sym (ap (λ (o : Option Bound). given o (Some 92) λ b. given (slice_get d.interfaces b.interface) (Some 92) λ i. finds b i) p
     ∙ ap (λ (o : Option Planned). given o (Some 92) λ i. finds b i) q)
+
+-- ---- no fault of a call
+
+pub call_made : (e : EndId) (c : TheCall) (d left : Draft) → None ≡ fault_at e (call_fault e.side c) d → left ≡ with_job (calls e c) (change_use e makes_calls d)
+    → makes_call e c d ≡ goes_on left
+call_made e c d left none is =
+    ap (λ (o : Option ℕ). given o (goes_on (with_job (calls e c) (change_use e makes_calls d))) stops) (sym none) ∙ ap goes_on (sym is)
+
+pub call_joins : {T : Type 0} (e : EndId) (c : TheCall) (d same : Draft) (result : Result T CoresLineFault) (left : Draft) → None ≡ fault_at e (call_fault e.side c) d → same ≡ d
+    → Comes result left (goes_on (with_job (calls e c) (change_use e makes_calls same))) → Comes result left (makes_call e c d)
+call_joins e c d same result left none is h =
+    subst (λ (v : LineVerdict Draft). Comes result left v)
+    (sym (call_made e c d (with_job (calls e c) (change_use e makes_calls same)) none (ap (λ (x : Draft). with_job (calls e c) (change_use e makes_calls x)) is))) h
+
+pub call_put : (e : EndId) (c : TheCall) (d : Draft) (bindings : List Bound) (jobs : List Job) → bindings ≡ changed_at e.binding (with_use e.side makes_calls) d.bindings
+    → jobs ≡ d.jobs ++ calls e c ∷ [] → record d { settled = true; bindings = bindings; jobs = jobs } ≡ with_job (calls e c) (change_use e makes_calls d)
+call_put e c d bindings jobs b j =
+    ap (λ (bs : List Bound). record d { settled = true; bindings = bs; jobs = jobs }) b
+    ∙ ap (λ (js : List Job). record d { settled = true; bindings = changed_at e.binding (with_use e.side makes_calls) d.bindings; jobs = js }) j
 
 -- ---- no fault of a reply rule
 
@@ -73,11 +101,11 @@ has i msg m e = let h : msg < length i.interface.messages = slice_get_within i.i
 pub no_fault : (side : Side) (msg answer : ℕ) (b : Bound) (i : Planned) (m n : TheMessage) → slice_get i.interface.messages msg ≡ Some m
     → slice_get i.interface.messages answer ≡ Some n → same_arguments m.args n.args ≡ true → is_for_calls (use_at side b) ≡ false
     → is_for_rules (use_at (other side) b) ≡ false → None ≡ rule_fault side msg answer b i
-no_fault side msg answer b i m n p q same calls rules =
+no_fault side msg answer b i m n p q same no_calls no_rules =
     past_tests (has_message msg i) (has_message answer i) (same_arguments (arguments_of msg i) (arguments_of answer i)) (is_for_calls (use_at side b))
     (is_for_rules (use_at (other side) b)) (Some 41) (Some 42) (Some 44) None (has i msg m p) (has i answer n q)
     (ap (λ (o : Option TheMessage). same_arguments (types_of o) (arguments_of answer i)) p
-    ∙ (ap (λ (o : Option TheMessage). same_arguments m.args (types_of o)) q ∙ same)) calls rules
+    ∙ (ap (λ (o : Option TheMessage). same_arguments m.args (types_of o)) q ∙ same)) no_calls no_rules
 
 -- ---- all elements changed, one after the other
 
@@ -91,6 +119,32 @@ pub file_is : (r : Reading) (numbers : List ℕ) (d : Draft) → numbers ≡ num
     → file_left numbers (record { names = r.names; draft = d }) ≡ file_of r
 file_is r numbers d e h =
     ap (λ (x : Draft). file_left numbers (record { names = r.names; draft = x })) h ∙ ap (λ (ns : List ℕ). file_by ns r) e
+
+-- ---- numbers that are places
+
+pub in_place : (numbers : List ℕ) (place : ℕ) → ((k : ℕ) → k < length numbers → get_or numbers k 0 ≡ k) → numbered numbers place ≡ place
+in_place numbers place each = by (slice_get numbers place) refl where
+  by : (o : Option ℕ) → slice_get numbers place ≡ o → unwrap_or o place ≡ place
+  by None is = refl
+  by (Some n) is =
+      let there : place < length numbers = slice_get_within numbers place n is in
+      let read = slice_get-get_or numbers place 0 there in
+      let same = each place there in
+      cc
+
+same_end : (numbers : List ℕ) (e : EndId) → ((place : ℕ) → numbered numbers place ≡ place) → end_by numbers e ≡ e
+same_end numbers e places = ap (λ (n : ℕ). let f : EndId = record { binding = n; side = e.side } in f) (places e.binding)
+
+same_job : (numbers : List ℕ) (job : Job) → ((place : ℕ) → numbered numbers place ≡ place) → job_by numbers job ≡ job
+same_job numbers (opens request) places = refl
+same_job numbers (replies e msg answer) places = ap (λ (f : EndId). replies f msg answer) (same_end numbers e places)
+same_job numbers (calls e c) places = ap (λ (f : EndId). calls f c) (same_end numbers e places)
+
+-- jobs that name ends by such numbers stay as they are
+pub same_jobs : (numbers : List ℕ) (jobs : List Job) → ((place : ℕ) → numbered numbers place ≡ place) → map (job_by numbers) jobs ≡ jobs
+same_jobs numbers [] places = refl
+same_jobs numbers (job ∷ jobs) places =
+    ap (λ (j : Job). j ∷ map (job_by numbers) jobs) (same_job numbers job places) ∙ ap (λ (js : List Job). job ∷ js) (same_jobs numbers jobs places)
 
 -- ---- one text more
 

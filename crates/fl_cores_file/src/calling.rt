@@ -1,11 +1,13 @@
 //! Lines that hand in calls and set reply rules.
 
-ghost use Rattle.std.specs.Prelude.{◌≡◌, ◌<◌, IfOk, IfSome, length, map, slice_get, slice_set};
+ghost use Rattle.std.specs.Prelude.{◌≡◌, ◌<◌, IfOk, map, vec_len};
+ghost use Rattle.std.specs.Vec.{vec_capacity};
 ghost use Rattle.fl_model.specs.Given.{changed_at};
 ghost use Rattle.fl_value_data.specs.Value.{call_of};
 ghost use Rattle.fl_cores_file.specs.Draft.{use_at, with_use, change_use, is_for_calls, is_for_rules};
-ghost use Rattle.fl_cores_file.specs.Draft.{call_fault, rule_fault, fault_at, makes_call, sets_rule};
-ghost use Rattle.fl_cores_file.specs.Verdicts.{Comes};
+ghost use Rattle.fl_cores_file.specs.Draft.{call_fault, rule_fault, fault_at, makes_call, sets_rule, makes_calls, with_job};
+ghost use Rattle.fl_cores_file.specs.Jobs.{calls};
+ghost use Rattle.fl_cores_file.specs.Verdicts.{Comes, goes_on};
 ghost use Rattle.fl_cores_file.specs.Views.{use_from, bound_of, planned_of, draft_of};
 
 use crate::draft::{Draft, DraftBinding, DraftInterface, EndUse};
@@ -13,7 +15,7 @@ use crate::job::Job;
 use crate::stop::CoresLineFault;
 use fl_base::{EndId, MsgNo, Side, faults};
 use fl_interface::same_args;
-use fl_value_data::{Call, fits};
+use fl_value_data::{Call, Value, fits};
 use std::alloc::{AllocError, Global};
 
 impl EndUse {
@@ -40,23 +42,19 @@ impl DraftBinding {
         }
     }
 
-    fn with_use(self, side: Side, what: EndUse) -> DraftBinding
-        ensures put { bound_of result ≡ with_use side (use_from what) (bound_of self) }
+    #[inline(always)]
+    fn set_use(&mut self, side: Side, what: EndUse)
+        ensures put { bound_of self.new ≡ with_use side (use_from what) (bound_of self.old) }
     {
         match side {
-            Side::Client => DraftBinding {
-                client: what,
-                ..self
-            },
-            Side::Server => DraftBinding {
-                server: what,
-                ..self
-            },
+            Side::Client => self.client = what,
+            Side::Server => self.server = what,
         }
     }
 }
 
 // The fault for which a call is refused at an end of a binding of an interface.
+#[inline(always)]
 fn call_fault(
     side: Side,
     call: &Call,
@@ -103,46 +101,39 @@ fn rule_fault(
     None
 }
 
-fn bound_at(bindings: &Vec<DraftBinding>, place: usize) -> Option<DraftBinding>
-    ensures bound { result ≡ slice_get bindings.now.items place }
-    ensures within { IfSome result (λ bound. place < length bindings.now.items) }
-{
-    match bindings.get(place) {
-        None => None,
-        Some(bound) => Some(*bound),
-    }
-}
-
-fn set_bound(bindings: &mut Vec<DraftBinding>, place: usize, bound: DraftBinding)
-    requires within { place < length bindings.old.items }
-    ensures set { bindings.new.items ≡ slice_set bindings.old.items place bound }
-{
-    bindings[place] = bound;
-}
-
-#[tactic(auto, using(crate::proofs::Lists::map_put, crate::proofs::Lists::map_past))]
+#[inline(always)]
 fn put_use_at(bindings: &mut Vec<DraftBinding>, end: EndId, what: EndUse)
     ensures put { map bound_of bindings.new.items ≡ changed_at end.binding (with_use end.side (use_from what)) (map bound_of bindings.old.items) }
 {
-    match bound_at(bindings, end.binding) {
+    match bindings.get_mut(end.binding) {
         None => {}
-        Some(bound) => set_bound(bindings, end.binding, bound.with_use(end.side, what)),
+        Some(bound) => bound.set_use(end.side, what),
     }
 }
 
-// The call, with memory of its own for as many arguments as it has. The list that they stood in is left empty.
-fn take_out(alloc: Global, call: &mut Call) -> Result<Call, AllocError>
-    ensures same { IfOk result (λ c. call_of c ≡ call_of call.old) }
+// The one value of a list, in memory of its own: it is moved without a call.
+#[inline(always)]
+fn take_one(alloc: Global, values: &mut Vec<Value>) -> Result<Vec<Value>, AllocError>
+    requires one { vec_len values.old ≡ 1 }
+    ensures same { IfOk result (λ v. v.items ≡ values.old.items) }
 {
-    let mut args = Vec::with_capacity(alloc, call.args.len())?;
-    args.append(&mut call.args)?;
-    Ok(Call {
-        msg: call.msg,
-        args,
-    })
+    let mut taken = Vec::with_capacity(alloc, 1)?;
+    let value = values.take_last();
+    taken.push_reserved(value);
+    Ok(taken)
+}
+
+// The values of a list, in memory of their own for as many as there are.
+fn take_several(alloc: Global, values: &mut Vec<Value>) -> Result<Vec<Value>, AllocError>
+    ensures same { IfOk result (λ v. v.items ≡ values.old.items) }
+{
+    let mut taken = Vec::with_capacity(alloc, values.len())?;
+    taken.append(values)?;
+    Ok(taken)
 }
 
 impl<'a> Draft<'a> {
+    #[inline(always)]
     fn put_use(&mut self, end: EndId, what: EndUse)
         ensures put { draft_of self.new ≡ change_use end (use_from what) (draft_of self.old) }
     {
@@ -150,6 +141,7 @@ impl<'a> Draft<'a> {
     }
 
     // The fault for which a call is refused.
+    #[inline(always)]
     fn call_fault(&self, end: EndId, call: &Call) -> Option<u8>
         ensures same { result ≡ fault_at end (call_fault end.side (call_of call.now)) (draft_of self.now) }
     {
@@ -175,16 +167,67 @@ impl<'a> Draft<'a> {
         rule_fault(end.side, message, answer, binding, planned)
     }
 
-    // Where a call is accepted, its arguments are taken out of the list that it was read in.
+    // An end makes a call: a job more, for which there is room.
+    #[inline(always)]
+    fn put_call(&mut self, end: EndId, call: Call)
+        requires room { vec_len self.old.jobs < vec_capacity self.old.jobs }
+        ensures put { draft_of self.new ≡ with_job (calls end (call_of call)) (change_use end makes_calls (draft_of self.old)) }
+    {
+        put_use_at(&mut self.bindings, end, EndUse::Calls);
+        self.settled = true;
+        self.jobs.push_reserved(Job::Call { end, call });
+    }
+
+    // The same of a call with one value, which is taken out of the list that it was read in.
+    #[inline(always)]
+    fn put_one(&mut self, end: EndId, call: &mut Call) -> Result<(), CoresLineFault>
+        requires room { vec_len self.old.jobs < vec_capacity self.old.jobs }
+        requires one { vec_len call.old.args ≡ 1 }
+        ensures put { Comes result (draft_of self.new)
+            (goes_on (with_job (calls end (call_of call.old)) (change_use end makes_calls (draft_of self.old)))) }
+    {
+        let msg = call.msg;
+        let args = take_one(self.alloc, &mut call.args)?;
+        self.put_call(end, Call { msg, args });
+        Ok(())
+    }
+
+    // The same of any call.
+    #[inline(never)]
+    fn put_any(&mut self, end: EndId, call: &mut Call) -> Result<(), CoresLineFault>
+        requires room { vec_len self.old.jobs < vec_capacity self.old.jobs }
+        ensures put { Comes result (draft_of self.new)
+            (goes_on (with_job (calls end (call_of call.old)) (change_use end makes_calls (draft_of self.old)))) }
+    {
+        let msg = call.msg;
+        let args = take_several(self.alloc, &mut call.args)?;
+        self.put_call(end, Call { msg, args });
+        Ok(())
+    }
+
+    // The same; most calls have one value.
+    #[inline(always)]
+    fn add_call(&mut self, end: EndId, call: &mut Call) -> Result<(), CoresLineFault>
+        requires room { vec_len self.old.jobs < vec_capacity self.old.jobs }
+        ensures put { Comes result (draft_of self.new)
+            (goes_on (with_job (calls end (call_of call.old)) (change_use end makes_calls (draft_of self.old)))) }
+    {
+        if call.args.len() == 1 {
+            return self.put_one(end, call);
+        }
+        self.put_any(end, call)
+    }
+
+    // Where a call is accepted, its arguments are taken out of the list that it was read in. Room for the job is made first, so that
+    // the job is made in its place.
     pub(crate) fn call(&mut self, end: EndId, call: &mut Call) -> Result<(), CoresLineFault>
         ensures comes { Comes result (draft_of self.new) (makes_call end (call_of call.old) (draft_of self.old)) }
     {
         if let Some(number) = self.call_fault(end, call) {
             return Err(CoresLineFault::Refused(number));
         }
-        let call = take_out(self.alloc, call)?;
-        self.put_use(end, EndUse::Calls);
-        self.put_job(Job::Call { end, call })
+        self.jobs.reserve(1)?;
+        self.add_call(end, call)
     }
 
     pub(crate) fn reply(

@@ -109,6 +109,7 @@ impl<'a> Draft<'a> {
     }
 
     // One job more.
+    #[inline(always)]
     pub(crate) fn put_job(&mut self, job: Job<'a>) -> Result<(), CoresLineFault>
         ensures put { Comes result (draft_of self.new) (goes_on (with_job (job_of job.entry) (draft_of self.old))) }
     {

@@ -1,6 +1,6 @@
 //! A cores file that was read.
 
-ghost use Rattle.std.specs.Prelude.{◌≡◌, ◌≤◌, length, map, IfOk};
+ghost use Rattle.std.specs.Prelude.{ℕ, ◌≡◌, ◌≤◌, true, length, map, IfOk};
 ghost use Rattle.fl_cores_file.specs.CoresFile.{which_opened, count_set_up, numbers_of, numbered, end_by, job_by, with_numbers, file_left};
 ghost use Rattle.fl_cores_file.specs.Files.{file_from, reading_of};
 ghost use Rattle.fl_cores_file.specs.Views.{bound_of, job_of, draft_of};
@@ -108,12 +108,28 @@ fn number_jobs(numbers: &[usize], jobs: &mut [Job<'_>])
     }
 }
 
-// Numbers a draft's bindings, and names the ends of its jobs by their numbers.
+// Whether each of these numbers is its own place: where no binding is opened, or all are.
+fn are_places(numbers: &[usize]) -> bool
+    ensures places { result ≡ true → (place : ℕ) → numbered numbers.now place ≡ place }
+{
+    for (place, number) in numbers.iter().enumerate() {
+        if *number != place {
+            return false;
+        }
+    }
+    true
+}
+
+// Numbers a draft's bindings, and names the ends of its jobs by their numbers. Where these are the places that jobs name already, no
+// job is looked at.
 pub(crate) fn number(alloc: Global, draft: &mut Draft<'_>) -> Result<Vec<usize>, AllocError>
     ensures numbers { IfOk result (λ v. v.items ≡ numbers_of (which_opened (map bound_of draft.old.bindings.items))) }
     ensures jobs { IfOk result (λ v. draft_of draft.new ≡ with_numbers v.items (draft_of draft.old)) }
 {
     let numbers = number_bindings(alloc, &draft.bindings)?;
+    if are_places(&numbers) {
+        return Ok(numbers);
+    }
     number_jobs(&numbers, &mut draft.jobs);
     Ok(numbers)
 }

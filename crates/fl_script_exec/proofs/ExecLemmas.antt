@@ -12,7 +12,7 @@ use Rattle.fl_script_exec.specs.declared.running.ExecFault.{ExecFault}
 use Rattle.fl_script_exec.specs.declared.running.ExecFault.TheVariants.{Memory, Read, Write}
 use Rattle.fl_script_exec.specs.declared.script.Script.{Script as RustScript}
 use Rattle.fl_model.specs.State.{State}
-use Rattle.fl_script_exec.specs.Shown.{IsAt}
+use Rattle.fl_script_exec.specs.Shown.{IsAt, Leads}
 use Rattle.fl_script_exec.specs.Counting.{CountsOne, CountsUpTo}
 use Rattle.fl_script_exec.specs.Reading.{ReadsWhole, CanBeUnread, GivesSome, GivesScript, GivesUntil, StopsWith, GoesOn}
 use Rattle.fl_base.specs.Prefix.{IsPrefix}
@@ -136,9 +136,6 @@ counts_more k most (Some a) (Some b) (Some c) x y h = omega (arith, x, y, h)
 
 pub begins : (s : Script) (text : List ℕ) → GoesOn s text s text []
 begins s text = record { runs = λ more r. r }
-
-abbrev pub Leads : List ℕ → List ℕ → Item → Type 0
-Leads rest behind item = (items : List Item) → ItemsOf behind items → ItemsOf rest (item ∷ items)
 
 -- an item, and then what the rest does
 one_first : (now : Script) (rest behind : List ℕ) (item : Item) (effect : Effect) (more : List Effect) → Leads rest behind item → Does now item effect

@@ -14,7 +14,6 @@ ghost use Rattle.fl_script_exec.specs.Written.{RanOn, Ran};
 use crate::reader::ScriptReader;
 use crate::script::Script;
 use fl_model::Machine;
-use fl_script_lines::next_part;
 use std::alloc::{AllocError, AllocFailed, Global};
 use std::io::Write;
 use thiserror::Error;
@@ -120,9 +119,8 @@ fn run<M: Machine, W: Write>(
     let mut out = Vec::new(script.alloc);
     let mut rest = text;
     while !rest.is_empty() {
-        let (part, behind) = next_part(rest);
         out.clear();
-        let Ok(()) = script.part(part, &mut out) else {
+        let Ok(behind) = script.answer_first(rest, &mut out) else {
             return Err(ExecFault::Memory);
         };
         if let Err(fault) = put_all(writer, &out) {

@@ -1,6 +1,6 @@
 //! A running script: the names that it has given, and the system that its lines act on. Each item is answered here.
 
-ghost use Rattle.std.specs.Prelude.{◌≡◌, ◌∷◌, ◌++◌, [], Err, IfOk, OnOk, OnErr};
+ghost use Rattle.std.specs.Prelude.{◌≡◌, ◌<◌, ◌∷◌, ◌++◌, [], Err, IfOk, OnOk, OnErr, length};
 ghost use Rattle.fl_interface.specs.Interface.{interface_of};
 ghost use Rattle.fl_script_lines.specs.declared.fault.LineFault.TheVariants.{Memory};
 ghost use Rattle.fl_script_lines.specs.Answers.{answer_text, line};
@@ -12,7 +12,7 @@ ghost use Rattle.fl_script_lines.specs.Items.{a_line, a_block};
 ghost use Rattle.fl_script_lines.specs.Told.{names_of, named, IsNew};
 ghost use Rattle.fl_script_lines.specs.Views.{command_of, part_of};
 ghost use Rattle.fl_script_lines.specs.Reading.{command_by, line_with};
-ghost use Rattle.fl_script_exec.specs.Shown.{IsAt, Answers, AnswersBy, AnswersTold, AnswersEvent};
+ghost use Rattle.fl_script_exec.specs.Shown.{IsAt, Answers, AnswersBy, AnswersTold, AnswersEvent, AnswersFirst, HasFirst};
 ghost use Rattle.fl_script_exec.specs.Transcript.{beginning, writes_only, effect_of, writes_refusal};
 ghost use Rattle.fl_script_exec.specs.Transcript.{block_effect, Does};
 ghost use Rattle.fl_check.specs.Text.{stands_for, text_fault};
@@ -22,8 +22,8 @@ use fl_check::{TextRead, read_text};
 use fl_interface::Interface;
 use fl_model::{Answer, Machine};
 use fl_script_lines::{
-    Command, LineFault, NamedEvent, RawItem, ScriptNames, Verb, print_answer, print_fault,
-    read_command,
+    Command, LineFault, NamedEvent, RawItem, ScriptNames, Verb, next_part, next_repeated,
+    print_answer, print_fault, read_command,
 };
 use fl_value_data::{PlanNo, Value};
 use std::alloc::{AllocError, Global};
@@ -299,11 +299,8 @@ impl<M: Machine> Script<M> {
         }
     }
 
-    /// Answers an item: does what it asks, and puts its answer's line behind `out`, where it has one.
-    ///
-    /// # Errors
-    /// Out of memory; nothing is told of the script then.
-    pub fn part(&mut self, part: RawItem<'_>, out: &mut Vec<u8>) -> Result<(), AllocError>
+    // Answers an item: does what it asks, and puts its answer's line behind `out`, where it has one.
+    fn part(&mut self, part: RawItem<'_>, out: &mut Vec<u8>) -> Result<(), AllocError>
         ensures ok { OnOk result (Answers M.shows self.old self.new out.old.items out.new.items
             (λ s. Does s (part_of part.entry))) }
     {
@@ -313,6 +310,46 @@ impl<M: Machine> Script<M> {
             RawItem::Unread => self.refuse(faults::UNREAD, out),
             RawItem::Block(plan, text) => self.block(plan, text, out),
             RawItem::OpenBlock => self.refuse(faults::UNREAD, out),
+        }
+    }
+
+    // Answers the first item of a text, whatever it is. Out of line, so that a line that is repeated prepares nothing of it.
+    #[inline(never)]
+    fn answer_part<'t>(&mut self, text: &'t [u8], out: &mut Vec<u8>) -> Result<&'t [u8], AllocError>
+        requires some { 0 < length text.now }
+        ensures ok { IfOk result (λ behind. AnswersFirst M.shows self.old self.new out.old.items out.new.items text.now behind.now) }
+        ensures shorter { IfOk result (λ behind. length behind.now < length text.now) }
+        ensures left { OnErr result (HasFirst text.now) }
+    {
+        let (part, behind) = next_part(text);
+        match self.part(part, out) {
+            Ok(()) => Ok(behind),
+            Err(error) => Err(error),
+        }
+    }
+
+    /// Answers the first item of a text: does what it asks, and puts its answer's line behind `out`, where it has one. Tells what
+    /// stands behind the item.
+    ///
+    /// # Errors
+    /// Out of memory; nothing is told of the script then.
+    #[inline(always)]
+    pub fn answer_first<'t>(
+        &mut self,
+        text: &'t [u8],
+        out: &mut Vec<u8>,
+    ) -> Result<&'t [u8], AllocError>
+        requires some { 0 < length text.now }
+        ensures ok { IfOk result (λ behind. AnswersFirst M.shows self.old self.new out.old.items out.new.items text.now behind.now) }
+        ensures shorter { IfOk result (λ behind. length behind.now < length text.now) }
+        ensures left { OnErr result (HasFirst text.now) }
+    {
+        match next_repeated(text) {
+            None => self.answer_part(text, out),
+            Some((verb, rest, behind)) => match self.line(verb, rest, out) {
+                Ok(()) => Ok(behind),
+                Err(error) => Err(error),
+            },
         }
     }
 }

@@ -1,5 +1,5 @@
 -- The lines of a script and of its blocks, one after another.
-use Rattle.std.proofs.Common.{◌≡◌, ◌≢◌, ◌<◌, inl, inr, ℕ, ◌+◌, Bool, true, false, List, [], ◌∷◌, ◌++◌, length, take, drop, get_or, refl, sym, ap, subst, ◌∙◌, arith, suc, zero, append_assoc, length-append}
+use Rattle.std.proofs.Common.{◌≡◌, ◌≢◌, ◌<◌, inl, inr, ℕ, ◌+◌, Bool, true, false, List, [], ◌∷◌, ◌++◌, Option, None, Some, length, take, drop, get_or, refl, sym, ap, subst, ◌∙◌, arith, suc, zero, append_assoc, length-append}
 use Rattle.std.proofs.lemmas.Bool.{false≢true}
 use Rattle.std.proofs.lemmas.Bool.Decides.{nat_tests, not_from_Decides}
 use Rattle.std.proofs.lemmas.List.{take_all, drop_all, length-take-le}
@@ -11,7 +11,8 @@ use Rattle.memchr.specs.Find.{NoneBefore, Nowhere, Passes, is_byte}
 use Rattle.fl_value_data.specs.declared.value.PlanNo.{PlanNo}
 use Rattle.fl_script_lines.specs.Grammar.{Line, silent, heading, command, unread, LineIs}
 use Rattle.fl_script_lines.specs.Items.{put_first, lines_of, WithoutEnd, Item, a_line, a_block, open_block, EndsBlock, Mode, outside, inside, Behind, Items, ItemsOf, BlockOf, SomeItems, OneItems}
-use Rattle.fl_script_lines.specs.Reading.{read_line}
+use Rattle.fl_script_lines.specs.Reading.{read_line, line_with}
+use Rattle.fl_script_lines.specs.Commands.{Command}
 use Rattle.fl_script_lines.proofs.GrammarLemmas.{one_line_is, line_is_read}
 use Rattle.fl_script_lines.proofs.LineEnds.{some_text, one_text}
 
@@ -103,6 +104,18 @@ within_more bytes rest line behind taken w lines split e =
 first_line : (bytes line bare behind : List ℕ) (l : Line) (items : List Item) → lines_of bytes ≡ line ∷ lines_of behind → WithoutEnd line bare
     → LineIs bare l → Behind l (Items (lines_of behind)) items → ItemsOf bytes items
 first_line bytes line bare behind l items lines end is h = subst (λ (ls : List (List ℕ)). Items ls outside items) (sym lines) (bare, l, end, is, h)
+
+-- the same of a line that was told from its words
+behind_words : (o : Option Command) (lines : List (List ℕ)) (items : List Item) → Items lines outside items
+    → Behind (line_with o) (Items lines) (a_line (line_with o) ∷ items)
+behind_words None lines items h = (items, h, refl)
+behind_words (Some c) lines items h = (items, h, refl)
+
+pub line_of_words : (bytes line bare behind : List ℕ) (o : Option Command) → lines_of bytes ≡ line ∷ lines_of behind → WithoutEnd line bare
+    → line_with o ≡ read_line bare → (items : List Item) → ItemsOf behind items → ItemsOf bytes (a_line (line_with o) ∷ items)
+line_of_words bytes line bare behind o lines end told items h =
+    first_line bytes line bare behind (line_with o) (a_line (line_with o) ∷ items) lines end
+    (subst (λ (x : Line). LineIs bare x) (sym told) (line_is_read bare)) (behind_words o (lines_of behind) items h)
 
 -- ---- some list of items
 

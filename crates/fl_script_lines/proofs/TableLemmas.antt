@@ -70,6 +70,20 @@ name_added q ks ks2 n none same put =
     ap (map items_of) (put_new (list_any (is_it n.items) ks) ks ks2 n new put)
     ∙ (map_push items_of ks n ∙ ap (λ (t : List ℕ). map items_of ks ++ t ∷ []) same)
 
+-- ---- names byte by byte
+
+equal_bytes : (a b : List ℕ) → length a ≡ length b → ((k : ℕ) → k < length a → get_or a k 0 ≡ get_or b k 0) → a ≡ b
+equal_bytes [] [] long each = refl
+equal_bytes [] (y ∷ b) long each = absurd (omega (arith, long))
+equal_bytes (x ∷ a) [] long each = absurd (omega (arith, long))
+equal_bytes (x ∷ a) (y ∷ b) long each =
+    let here : x ≡ y = each 0 (omega arith) in
+    let rest = equal_bytes a b (omega (arith, long)) (λ k below. each (suc k) (omega (arith, below))) in
+    ap (λ z. z ∷ a) here ∙ ap (λ (zs : List ℕ). y ∷ zs) rest
+
+pub same_bytes : (a b : List ℕ) → length a ≡ length b → ((k : ℕ) → k < length a → get_or a k 0 ≡ get_or b k 0) → true ≡ bytes_eq a b
+same_bytes a b long each = sym ((bytes_eq-Decides a b).1 (equal_bytes a b long each))
+
 -- ---- a guessed place
 
 abbrev same_items : Vec ℕ → Vec ℕ → Bool

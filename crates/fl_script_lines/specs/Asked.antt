@@ -106,6 +106,12 @@ Asks n (mwrite core neighbour) asked = asked ≡ asks (monitor_write core neighb
 Asks n (forward core neighbour) asked = asked ≡ asks (event.forward core neighbour) n
 Asks n (mack core neighbour) asked = asked ≡ asks (monitor_ack core neighbour) n
 
+-- memory is asked for where a call's text is read, and for no other command; it is wanting only where the text asks an
+-- event
+abbrev pub AsksForMemory : Names → Command → Type 0
+AsksForMemory n (call e text) = AsksCall n e text
+AsksForMemory n c = ⊥
+
 -- a block whose text stands for an interface asks this
 abbrev pub asks_interface : Names → TheInterface → PlanNo → Asked
 asks_interface n i plan =

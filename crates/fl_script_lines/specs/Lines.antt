@@ -9,7 +9,8 @@ use Rattle.fl_model.specs.declared.event.Event.TheVariants as rust
 use Rattle.fl_value_data.specs.declared.value.Call.{Call as RustCall}
 use Rattle.fl_script_lines.specs.declared.fault.LineFault.{LineFault}
 use Rattle.fl_script_lines.specs.declared.fault.LineFault.TheVariants.{Memory}
-use Rattle.fl_script_lines.specs.Asked.{Asked, refuses, asks, Asks, CallAsks, AsksCall, asks_end, asks_turn}
+use Rattle.fl_script_lines.specs.Asked.{Asked, refuses, asks, Asks, CallAsks, AsksCall, AsksForMemory}
+use Rattle.fl_script_lines.specs.Asked.{asks_end, asks_turn}
 use Rattle.fl_script_lines.specs.Commands.{EndName, Command}
 use Rattle.fl_model.specs.Views.{event_of}
 use Rattle.fl_script_lines.specs.Faults.{number_of}
@@ -28,10 +29,15 @@ abbrev pub TellsEvent : Names → Result RustEvent LineFault → Asked → Type 
 TellsEvent n (Ok event) asked = asks (event_of event) n ≡ asked
 TellsEvent n (Err fault) asked = refuses (number_of fault) ≡ asked
 
--- the line asks something, and what a function returned tells it; or it asks an event, for which memory ran out
+-- memory may be wanting for the line: its command is a call, and asks an event
+abbrev pub LineWants : Names → Option Command → Type 0
+LineWants n None = ⊥
+LineWants n (Some c) = AsksForMemory n c
+
+-- the line asks something, and what a function returned tells it, or memory ran out for it
 abbrev pub LineTells : Names → Option Command → Result RustEvent LineFault → Type 0
 LineTells n c result =
-    ((result ≡ Err Memory) × ((event : Event) × LineAsks n c (asks event n))) ⊎ ((asked : Asked) × LineAsks n c asked × TellsEvent n result asked)
+    ((result ≡ Err Memory) × LineWants n c) ⊎ ((asked : Asked) × LineAsks n c asked × TellsEvent n result asked)
 
 -- the same of a call's text
 abbrev pub CallTells : Names → EndName → List ℕ → Result RustEvent LineFault → Type 0

@@ -6,8 +6,8 @@ use Rattle.fl_script_lines.specs.declared.event.Naming.TheVariants.{Nothing, Dis
 use Rattle.fl_script_lines.specs.declared.fault.LineFault.{LineFault}
 use Rattle.fl_script_lines.specs.declared.fault.LineFault.TheVariants.{Memory}
 use Rattle.fl_script_lines.specs.declared.names.ScriptNames.{ScriptNames as RustNames}
-use Rattle.fl_script_lines.specs.Asked.{Asked, refuses, asks, Asks, AsksCall}
-use Rattle.fl_script_lines.specs.Commands.{Command, call}
+use Rattle.fl_script_lines.specs.Asked.{Asked, refuses, asks, Asks, AsksForMemory}
+use Rattle.fl_script_lines.specs.Commands.{Command}
 use Rattle.fl_model.specs.Views.{id_of, event_of}
 use Rattle.fl_script_lines.specs.Faults.{number_of}
 use Rattle.fl_script_lines.specs.Names.{Names, place_of, with_names, with_dispatcher, with_binding}
@@ -41,11 +41,6 @@ IsNew n (Interface new) = place_of new.value.name.items n.interfaces ≡ None
 abbrev pub Tells : Names → Result RustAsked LineFault → Asked → Type 0
 Tells n (Ok a) asked = asks (event_of a.event) (named n a.naming) ≡ asked
 Tells n (Err fault) asked = refuses (number_of fault) ≡ asked
-
--- memory is asked for where a call's text is read, and for no other command; it is wanting only where the text asks an event
-abbrev pub AsksForMemory : Names → Command → Type 0
-AsksForMemory n (call e text) = AsksCall n e text
-AsksForMemory n c = ⊥
 
 -- the command asks something, and what a function returned tells it, or memory ran out
 abbrev pub AsksAs : Names → Command → Result RustAsked LineFault → Type 0

@@ -9,7 +9,7 @@ ghost use Rattle.fl_script_lines.specs.Reading.{command_by, line_with};
 ghost use Rattle.fl_script_lines.specs.Views.{item_of, part_of};
 
 use crate::command::{Line, LineHead, Verb};
-use crate::reader::{open_line, read_command};
+use crate::reader::{open_line, read_command, read_repeated};
 use fl_value_data::PlanNo;
 use memchr::memchr;
 use std::simd::prelude::*;
@@ -112,6 +112,22 @@ fn block(bytes: &[u8]) -> Option<(&[u8], &[u8])>
         rest = behind;
     }
     None
+}
+
+/// The first line of a script that isn't at its end, where it begins with a word that is repeated: that word, what stands behind it in
+/// the line, and what stands behind the line. None where it is any other. Takes no memory.
+#[inline(always)]
+pub fn next_repeated(bytes: &[u8]) -> Option<(Verb, &[u8], &[u8])>
+    requires { 0 < length bytes.now }
+    ensures items { IfSome result (λ r. (items : List TheItem) → ItemsOf r.2.now items
+        → ItemsOf bytes.now (a_line (line_with (command_by r.0 r.1.now)) ∷ items)) }
+    ensures shorter { IfSome result (λ r. length r.2.now < length bytes.now) }
+{
+    let (line, behind) = next_line(bytes);
+    match read_repeated(without_end(line)) {
+        None => None,
+        Some((verb, rest)) => Some((verb, rest, behind)),
+    }
 }
 
 /// The first item of a script that isn't at its end, by its first word, and what stands behind it. Takes no memory.

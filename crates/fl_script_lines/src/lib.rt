@@ -35,7 +35,7 @@ pub use answer::{print_answer, print_fault, put_end};
 pub use command::{BackEndText, Command, EndName, Line, LineHead, RouteText, Verb};
 pub use event::{NamedEvent, Naming};
 pub use fault::LineFault;
-pub use item::{Item, RawItem, next_item, next_part};
+pub use item::{Item, RawItem, next_item, next_part, next_repeated};
 pub use law::{
     law_one_asked, law_one_items, law_one_line, law_printed_reads, law_some_items,
     law_spelled_reads,

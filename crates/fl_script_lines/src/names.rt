@@ -75,6 +75,7 @@ impl ScriptNames {
     }
 
     /// The end of a name.
+    #[inline]
     pub fn end(&self, name: EndName<'_>) -> Option<EndId>
         ensures same { result ≡ end_at (names_of self.now) (end_name_of name.entry) }
     {
@@ -96,6 +97,7 @@ impl ScriptNames {
     }
 
     // The names of the messages of an end's interface.
+    #[inline(always)]
     fn messages(&self, end: EndId) -> Option<&NameTable>
         ensures same { messages_at (names_of self.now) end ≡ unwrap_or (option_map (λ t. table_of t.now) result) [] }
     {
@@ -104,6 +106,7 @@ impl ScriptNames {
     }
 
     /// The message of a name, at the interface of an end.
+    #[inline]
     pub fn message(&self, end: EndId, name: &[u8]) -> Option<MsgNo>
         ensures same { option_map (λ m. m.0) result ≡ message_at (names_of self.now) end name.now }
     {
@@ -334,7 +337,8 @@ impl ScriptNames {
     ///
     /// # Errors
     /// The first that applies, of: the text of a call is none (E90); a name is unknown or, of a dispatcher or a binding
-    /// that is to be made, taken (E92); the interface of the end has no such message (E41). Out of memory (E99).
+    /// that is to be made, taken (E92); the interface of the end has no such message (E41); else, of a call alone, out of
+    /// memory (E99).
     pub fn ask<'a>(&self, command: Command<'a>) -> Result<NamedEvent<'a>, LineFault>
         ensures asks { AsksAs (names_of self.now) (command_of command.entry) result }
         ensures new { IfOk result (λ a. IsNew (names_of self.now) a.naming) }

@@ -472,7 +472,7 @@ fn behind<'a>(line: &'a [u8], bytes: &[u8]) -> Option<&'a [u8]>
 
 // The verb of a line that is repeated, where a space stands behind it, and what stands behind that.
 #[inline(always)]
-fn read_repeated(line: &[u8]) -> Option<(Verb, &[u8])>
+pub(crate) fn read_repeated(line: &[u8]) -> Option<(Verb, &[u8])>
     ensures told { IfSome result (λ p. line_with (command_by p.0 p.1.now) ≡ read_line line.now) }
 {
     if let Some(rest) = behind(line, b"call ") {

@@ -11,22 +11,20 @@ use std::alloc::{AllocError, Global};
 // A table of no more names than these is read from its front: that takes less time than to ask the map.
 const FEW: usize = 8;
 
-// Whether two names are the same.
+// Whether two names are the same. Most that differ have other lengths, or differ in a first byte.
 #[inline(always)]
 fn is_same(name: &[u8], other: &[u8]) -> bool
     ensures same { result ≡ bytes_eq name.now other.now }
 {
-    let mut left = other;
-    for byte in name {
-        let [first, behind @ ..] = left else {
-            return false;
-        };
-        if *byte != *first {
+    if name.len() != other.len() {
+        return false;
+    }
+    for (place, byte) in name.iter().enumerate() {
+        if *byte != other[place] {
             return false;
         }
-        left = behind;
     }
-    left.is_empty()
+    true
 }
 
 // The place of a name, found from the front.

@@ -6,8 +6,10 @@
 //!
 //! - `tape.rt`: `Tape`
 //! - `packing.rt`: the bytes of values and arguments
+//! - `order.rt`: where one pass over the arguments will do
 #![tactic(auto)]
 
+mod order;
 mod packing;
 mod tape;
 

@@ -11,6 +11,7 @@ ghost use Rattle.fl_value_data.specs.Tape.{raw_of, beside, kind};
 ghost use Rattle.fl_value_tape.specs.Packed.{low_bytes, value_packed, fields_packed, elements_packed, argument_packed};
 ghost use Rattle.fl_value_tape.specs.Packed.{packed_argument, rank_packed};
 
+use crate::order::never_falls;
 use fl_interface::{ArgType, FixedType, Scalar};
 use fl_value_data::{PlanNo, RANKS, Value};
 use std::alloc::AllocError;
@@ -223,7 +224,7 @@ fn push_ranks(out: &mut Vec<u8>, arguments: &[ArgType], values: &[Value]) -> Res
     Ok(())
 }
 
-/// Appends the bytes of all arguments, in the plan's order.
+/// Appends the bytes of all arguments, in the plan's order: in one pass where that is the declared one.
 pub(crate) fn push_arguments(
     out: &mut Vec<u8>,
     plan: PlanNo,
@@ -232,8 +233,8 @@ pub(crate) fn push_arguments(
 ) -> Result<(), AllocError>
     ensures packed { OnOk result (out.new.items ≡ out.old.items ++ flat_map packed_argument (arranged kind plan (beside arguments.now values.now))) }
 {
-    match plan {
-        PlanNo::One => push_rank(out, PlanNo::One, 0, arguments, values),
-        PlanNo::Two => push_ranks(out, arguments, values),
+    if never_falls(plan, arguments) {
+        return push_rank(out, PlanNo::One, 0, arguments, values);
     }
+    push_ranks(out, arguments, values)
 }

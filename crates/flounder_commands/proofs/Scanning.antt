@@ -1,15 +1,17 @@
 -- What a scan finds is what there is.
-use Rattle.std.proofs.Common.{◌≡◌, ◌≤◌, ◌∙◌, ap, refl, sym, subst, arith, ℕ, zero, suc, Bool, true, false, ◌||◌, List, [], ◌∷◌, ◌++◌, length, drop, Option, Some, None, IfSome}
+use Rattle.std.proofs.Common.{◌≡◌, ◌<◌, ◌≤◌, ◌∙◌, ap, refl, sym, subst, arith, ℕ, zero, suc, Bool, true, false, ◌||◌, List, [], ◌∷◌, ◌++◌, length, take, drop, Option, Some, None, IfSome}
 use Rattle.std.proofs.Math.Seq.{drop-length}
-use Rattle.memchr.specs.Find.{Nowhere, Passes, is_byte}
+use Rattle.memchr.specs.Find.{Nowhere, NoneBefore, IsLastByte, Passes, is_byte}
+use Rattle.std.specs.List.{list_any}
 use Rattle.std.specs.Prelude.{◌==◌, if◌then◌else◌, codes}
 use Rattle.std.specs.Char.{is_ascii_digit}
 use Rattle.std.proofs.Common.{◌&&◌}
-use Rattle.std.proofs.lemmas.Bool.{false≢true}
+use Rattle.std.proofs.lemmas.Bool.{false≢true, eqb-true}
+use Rattle.std.proofs.lemmas.List.{get_or-take, length-take-le}
 use Rattle.std.proofs.lemmas.Slice.Eq.{bytes_eq-Decides}
 use Rattle.std.specs.Io.KnownBytes.{Appends, Keeps}
 use Rattle.flounder_commands.specs.Refusals.{begins, is_any, is_numbered, is_refusal, any_line, has_refusal}
-use Rattle.flounder_commands.specs.Scan.{Ahead, before, behind, other, after, ends_line, Scanned, at_start, after_byte, after_all, same_found, same_line, same_scan, told_by}
+use Rattle.flounder_commands.specs.Scan.{Ahead, before, behind, other, after, ends_line, Scanned, at_start, after_byte, after_all, awaits, EndsBeforeE, same_found, same_line, same_scan, told_by}
 
 -- whether a line is a refusal, from its rest
 abbrev passes : Ahead → List ℕ → Bool
@@ -195,3 +197,72 @@ passes_over s bytes k line fits none =
 pub passes_all : (s : Scanned) (bytes : List ℕ) → s.line ≡ other → Nowhere (Passes (is_byte 10) bytes) 0 (length bytes) → s ≡ after_all s bytes
 passes_all s bytes line none =
     ap (after_all s) (sym (drop-length bytes)) ∙ passes_over s bytes (length bytes) line (omega arith) none
+
+-- ---- the lines that end before an `E` tell of none
+
+-- a byte that is no `E`, whether it is the one that is to come or not, leaves the line waiting
+waits_on : (c : ℕ) (cs : List ℕ) (b : ℕ) (e : Bool) → (b == c) ≡ e → (b == 69) ≡ false → awaits (before (c ∷ cs)) ≡ true
+    → awaits (if e then before cs else other) ≡ true
+waits_on c cs b true same no_e h =
+    subst (λ (v : Bool). (v || list_any (λ x. x == 69) cs) ≡ true) (ap (λ (n : ℕ). n == 69) (sym (eqb-true b c same)) ∙ no_e) h
+waits_on c cs b false same no_e h = refl
+
+awaits_after : (a : Ahead) (b : ℕ) → awaits a ≡ true → (b == 69) ≡ false → awaits (after a b) ≡ true
+awaits_after (before []) b h no_e = absurd (false≢true h)
+awaits_after (before (c ∷ cs)) b h no_e = waits_on c cs b (b == c) refl no_e h
+awaits_after (behind cs) b h no_e = absurd (false≢true h)
+awaits_after other b h no_e = refl
+
+awaits_end : (a : Ahead) → awaits a ≡ true → ends_line a ≡ false
+awaits_end (before []) h = absurd (false≢true h)
+awaits_end (before (c ∷ cs)) h = refl
+awaits_end (behind cs) h = absurd (false≢true h)
+awaits_end other h = refl
+
+abbrev pub at_line : Bool → Scanned
+at_line found = record { found = found; line = before (codes "refused E") }
+
+found_on : (s : Scanned) (b : ℕ) → awaits s.line ≡ true → (after_byte s b).found ≡ s.found
+found_on s b h =
+    elim (b == 10) as (λ e. (if e then s.found || ends_line s.line else s.found) ≡ s.found) [
+      | true ↦ ap (λ (v : Bool). s.found || v) (awaits_end s.line h) ∙ sym (or_false s.found)
+      | false ↦ refl
+    ]
+
+awaits_on : (s : Scanned) (b : ℕ) → awaits s.line ≡ true → (b == 69) ≡ false → awaits (after_byte s b).line ≡ true
+awaits_on s b h no_e =
+    elim (b == 10) as (λ e. awaits (if e then before (codes "refused E") else after s.line b) ≡ true) [
+      | true ↦ refl
+      | false ↦ awaits_after s.line b h no_e
+    ]
+
+line_feeds : (s : Scanned) (b : ℕ) → awaits s.line ≡ true → (b == 10) ≡ true → after_byte s b ≡ at_line s.found
+line_feeds s b h feed =
+    ap (λ (e : Bool). let t : Scanned = record {
+      found = if e then s.found || ends_line s.line else s.found;
+      line = if e then before (codes "refused E") else after s.line b;
+    } in t) feed
+    ∙ ap (λ (v : Bool). at_line (s.found || v)) (awaits_end s.line h) ∙ ap at_line (sym (or_false s.found))
+
+pub lines_over : (s : Scanned) (bytes : List ℕ) (k : ℕ) → awaits s.line ≡ true → EndsBeforeE bytes k
+    → after_all (at_line s.found) (drop (suc k) bytes) ≡ after_all s bytes
+lines_over s [] k h (short, feed, none) = absurd (omega (arith, short))
+lines_over s (b ∷ bytes) zero h (short, feed, none) = ap (λ (t : Scanned). after_all t bytes) (sym (line_feeds s b h feed))
+lines_over s (b ∷ bytes) (suc k) h (short, feed, none) =
+    let no_e : (b == 69) ≡ false = is_false (b == 69) (none 0 (omega arith) (omega arith)) in
+    ap (λ (f : Bool). after_all (at_line f) (drop (suc k) bytes)) (sym (found_on s b h))
+    ∙ lines_over (after_byte s b) bytes k (awaits_on s b h no_e)
+    (omega (arith, short), feed, λ j from to is. none (suc j) (omega arith) (omega (arith, to)) is)
+
+-- the last line feed before an `E`, and of bytes without one
+pub last_before : (bytes : List ℕ) (at : ℕ) (r : Option ℕ) → NoneBefore (Passes (is_byte 69) bytes) 0 (length bytes) at
+    → IsLastByte (is_byte 10) (take at bytes) r → IfSome r (EndsBeforeE bytes)
+last_before bytes at None e h = tt
+last_before bytes at (Some k) e h =
+    let near : k < at = omega (arith, h.0.high, length-take-le at bytes (omega (arith, e.high))) in
+    (omega (arith, near, e.high), ap (λ (n : ℕ). n == 10) (sym (get_or-take at bytes k 0 near)) ∙ h.1, λ j from to is. e.before j from (omega (arith, to, near)) is)
+
+pub last_of_all : (bytes : List ℕ) (r : Option ℕ) → Nowhere (Passes (is_byte 69) bytes) 0 (length bytes)
+    → IsLastByte (is_byte 10) bytes r → IfSome r (EndsBeforeE bytes)
+last_of_all bytes None none h = tt
+last_of_all bytes (Some k) none h = (h.0.high, h.1, λ j from to is. none j from (omega (arith, to, h.0.high)) is)

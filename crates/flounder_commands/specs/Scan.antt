@@ -1,7 +1,9 @@
 -- How far a transcript was read for lines that tell of refused lines. No public promise rests on this file.
-use Rattle.std.specs.Prelude.{◌==◌, ◌&&◌, ◌||◌, ℕ, Bool, true, false, not, List, [], ◌∷◌, codes, if◌then◌else◌, Option, Some, None}
+use Rattle.std.specs.Prelude.{◌<◌, ◌==◌, ◌&&◌, ◌||◌, ℕ, Bool, true, false, not, List, [], ◌∷◌, length, codes, if◌then◌else◌, Option, Some, None}
 use Rattle.std.specs.Char.{is_ascii_digit}
+use Rattle.std.specs.List.{list_any}
 use Rattle.std.specs.Str.{bytes_eq}
+use Rattle.memchr.specs.Find.{Nowhere, Passes, is_byte}
 
 -- What is to come of a line if it tells of a refused line: these bytes before its number, or digits if there are none; these bytes
 -- behind its number; or it tells of none.
@@ -46,6 +48,16 @@ after_byte s b = record { found = found_after s b; line = line_after s b }
 abbrev pub after_all : Scanned → List ℕ → Scanned
 after_all s [] = s
 after_all s (b ∷ bs) = after_all (after_byte s b) bs
+
+-- whether the line tells of no refusal before an `E` comes
+abbrev pub awaits : Ahead → Bool
+awaits (before cs) = list_any (λ c. c == 69) cs
+awaits (behind cs) = false
+awaits other = true
+
+-- a line ends here, and no `E` stands before that
+abbrev pub EndsBeforeE : List ℕ → ℕ → Type 0
+EndsBeforeE bytes k = (k < length bytes) × Passes (is_byte 10) bytes k × Nowhere (Passes (is_byte 69) bytes) 0 k
 
 -- ---- whether two are the same
 

@@ -1,10 +1,12 @@
 //! Lines of a transcript that tell of refused lines, found while it is written.
 
-ghost use Rattle.std.specs.Prelude.{◌≡◌, ◌≤◌, length};
+ghost use Rattle.std.specs.Prelude.{◌≡◌, ◌≤◌, ◌==◌, length, IfSome};
+ghost use Rattle.std.specs.List.{list_any};
 ghost use Rattle.flounder_commands.specs.Scan.{Ahead, before, behind, after, ends_line, after_byte, after_all, at_start};
+ghost use Rattle.flounder_commands.specs.Scan.{awaits, EndsBeforeE};
 ghost use Rattle.flounder_commands.specs.ScanView.{ahead, scanned};
 
-use memchr::memchr;
+use memchr::{memchr, memrchr};
 
 const REFUSED: &[u8] = b"refused E";
 
@@ -45,6 +47,13 @@ fn after_behind(rest: &'static [u8], byte: u8) -> LineState
     }
 }
 
+// Whether an `E` is among these.
+fn has_e(bytes: &[u8]) -> bool
+    ensures any { result ≡ list_any (λ c. c == 69) bytes.now }
+{
+    bytes.iter().any(|byte| *byte == b'E')
+}
+
 impl LineState {
     // One more byte of the line.
     fn after(self, byte: u8) -> LineState
@@ -57,6 +66,17 @@ impl LineState {
         }
     }
 
+    // Whether it tells of none before an `E` comes.
+    fn awaits(self) -> bool
+        ensures same { result ≡ awaits (ahead self) }
+    {
+        match self {
+            LineState::Before(rest) => has_e(rest),
+            LineState::Behind(_) => false,
+            LineState::Other => true,
+        }
+    }
+
     // Whether the line tells of a refused one where it ends here.
     fn is_refusal(self) -> bool
         ensures is { result ≡ ends_line (ahead self) }
@@ -65,6 +85,16 @@ impl LineState {
             LineState::Before(rest) | LineState::Behind(rest) => rest.is_empty(),
             LineState::Other => false,
         }
+    }
+}
+
+// The place of the last line feed before the first `E`.
+fn last_feed(bytes: &[u8]) -> Option<usize>
+    ensures last { IfSome result (EndsBeforeE bytes.now) }
+{
+    match memchr(b'E', bytes) {
+        Some(at) => memrchr(b'\n', &bytes[..at]),
+        None => memrchr(b'\n', bytes),
     }
 }
 
@@ -116,12 +146,30 @@ impl Scan {
         }
     }
 
+    // Past the lines that end before an `E`, which tell of none: most transcripts have no `E`. And what is left.
+    fn past_lines(self, bytes: &[u8]) -> (Scan, &[u8])
+        ensures same { after_all (scanned result.0) result.1.now ≡ after_all (scanned self) bytes.now }
+    {
+        if !self.line.awaits() {
+            return (self, bytes);
+        }
+        let Some(at) = last_feed(bytes) else {
+            return (self, bytes);
+        };
+        let next = Scan {
+            found: self.found,
+            line: LineState::Before(REFUSED),
+        };
+        (next, &bytes[at + 1..])
+    }
+
     /// These bytes were read behind the others.
     pub(crate) fn after(self, bytes: &[u8]) -> Scan
         ensures is { scanned result ≡ after_all (scanned self) bytes.now }
     {
-        let mut scan = self;
-        let mut rest = bytes;
+        let (start, left) = self.past_lines(bytes);
+        let mut scan = start;
+        let mut rest = left;
         while let Some((byte, more)) = rest.split_first() {
             scan = scan.after_byte(*byte);
             rest = scan.unread(more);
