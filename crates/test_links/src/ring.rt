@@ -10,7 +10,7 @@
 //! - `fragments.rt`: the fragments that they put, and the steps of a worked example
 
 mod faults;
-mod fragments;
+pub mod fragments;
 mod links;
 mod lists;
 mod makers;
