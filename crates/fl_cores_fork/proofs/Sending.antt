@@ -6,6 +6,7 @@ use Rattle.fl_core_run.proofs.plan.TurnPlan.TheSendSync as plan
 use Rattle.fl_core_run.proofs.run_seat.RunSeat.TheSendSync as run_seat
 use Rattle.fl_core_run.proofs.run.Part.TheSendSync as part
 use Rattle.fl_cores_shares.proofs.recorded_side.SideRecord.TheSendSync as side_record
+use Rattle.fl_cores_shares.specs.contracts.recorded_side.RecordedSide
 use Rattle.fl_compile.specs.contracts.program.Program
 use Rattle.fl_link.specs.contracts.queue.QueueLink
 use Rattle.fl_nameserv.specs.contracts.names.Names
@@ -15,6 +16,8 @@ use Rattle.fl_core_run.specs.contracts.end_progress.EndProgress
 use Rattle.fl_core_run.specs.contracts.running.RunningCore as Running
 use Rattle.fl_cores_fork.specs.contracts.core_thread.CoreThread
 use Rattle.fl_cores_fork.specs.contracts.core_thread.FinishedCore as Done
+use Rattle.fl_cores_fork.specs.contracts.noting.NotingRoom
+use Rattle.fl_cores_fork.specs.contracts.noting.RoomBehind
 
 -- a core with its sides, queues and ends' progress
 pub running_sends : IsSend Core.the_row → IsSend SharedSide.the_row → IsSend QueueLink.the_row → IsSend EndProgress.the_row → IsSend Names.the_row
@@ -57,3 +60,19 @@ done_field running = struct_send (shape Done.the_type) (core_thread_field runnin
 
 pub done_sends : IsSend (Running.the_field SharedSide.the_row).row → IsSend Done.the_row
 done_sends running = recorded_send (Done.the_field).row _ _ (Done.the_type).to_one (done_field running)
+
+-- room for a core's recorded run, and behind it
+room_behind_field : IsSend (Running.the_field SharedSide.the_row).row → IsSend SharedSide.the_row → IsSend (RoomBehind.the_field).row
+room_behind_field running side = struct_send (shape RoomBehind.the_type) (
+  let row = running_boxed running in search (sendable, crosses, row) depth 40,
+  (search (sendable, crosses, side) depth 40, (search (sendable, crosses, side_record.the_send) depth 40, tt)),
+)
+
+room_field : IsSend (Running.the_field SharedSide.the_row).row → IsSend SharedSide.the_row → IsSend RecordedSide.the_row → IsSend (NotingRoom.the_field).row
+room_field running side recorded = struct_send (shape NotingRoom.the_type) (
+  search (sendable, crosses, recorded) depth 40,
+  (search (sendable, crosses, side_record.the_send) depth 40, (room_behind_field running side, tt)),
+)
+
+pub room_sends : IsSend (Running.the_field SharedSide.the_row).row → IsSend SharedSide.the_row → IsSend RecordedSide.the_row → IsSend NotingRoom.the_row
+room_sends running side recorded = recorded_send (NotingRoom.the_field).row _ _ (NotingRoom.the_type).to_one (room_field running side recorded)

@@ -11,18 +11,21 @@ ghost use Rattle.fl_monitor.specs.contracts.monitor.Monitor as MonitorRows;
 ghost use Rattle.fl_link.specs.contracts.queue.QueueLink as QueueLinkRows;
 ghost use Rattle.fl_core.specs.contracts.one_core.Core as CoreRows;
 ghost use Rattle.fl_ring.specs.contracts.shared.duo_sides.SharedSide as SharedSideRows;
+ghost use Rattle.fl_cores_shares.specs.contracts.recorded_side.RecordedSide as RecordedSideRows;
 ghost use Rattle.fl_nameserv.specs.contracts.names.Names as NamesRows;
 ghost use Rattle.fl_core_run.specs.contracts.end_progress.EndProgress as ProgressRows;
 ghost use Rattle.fl_core.specs.contracts.core_job.CoreJob as JobRows;
 ghost use Rattle.fl_core_run.specs.contracts.running.RunningCore as RunningRows;
 ghost use Rattle.fl_cores_fork.specs.contracts.core_thread.CoreThread as CoreThreadRows;
 ghost use Rattle.fl_cores_fork.specs.contracts.core_thread.FinishedCore as DoneRows;
+ghost use Rattle.fl_cores_fork.specs.contracts.noting.NotingRoom as NotingRoomRows;
 ghost use Rattle.fl_cores_fork.specs.contracts.pace.Pace as PaceRows;
 
 use crate::pace::Pace;
 use fl_compile::Program;
 use fl_core::CoreJob;
 use fl_core_run::EndProgress;
+use fl_cores_shares::RecordedSide;
 use fl_endpoint::End;
 use fl_link::QueueLink;
 use fl_machine::Reassemblies;
@@ -108,6 +111,13 @@ fn side_sent()
     assert_send::<SharedSide>();
 }
 
+fn recorded_side_sent()
+    ensures sent { IsSend RecordedSideRows.the_row }
+{
+    side_sent();
+    assert_send::<RecordedSide>();
+}
+
 fn names_sent()
     ensures sent { IsSend NamesRows.the_row }
 {
@@ -153,6 +163,15 @@ pub(crate) fn core_thread_sent()
     ensures part { IsSend (CoreThreadRows.the_field).row }
 {
     running_sent();
+}
+
+// So may room for its recorded run.
+pub(crate) fn room_sent()
+    ensures sent { IsSend NotingRoomRows.the_row }
+{
+    running_sent();
+    side_sent();
+    recorded_side_sent();
 }
 
 // So may what came of it.

@@ -11,11 +11,12 @@ ghost use Rattle.fl_core.specs.BoardView.{TheEndAtChannel};
 ghost use Rattle.fl_core.specs.Sound.{IsCore};
 ghost use Rattle.fl_cores_fork.specs.declared.no_report.NoReport.TheVariants as stop;
 ghost use Rattle.fl_cores_fork.specs.CoreThreads.{IsReady, AllReady, CoreThreadRan};
+ghost use Rattle.fl_cores_fork.specs.Rooms.{RoomFits};
 
 use crate::core_thread::{CoreThread, FinishedCore};
-use crate::crossing::{core_thread_sent, done_sent, law_job_shared, law_pace_shared};
+use crate::crossing::{core_thread_sent, done_sent, law_job_shared, law_pace_shared, room_sent};
 use crate::no_report::NoReport;
-use crate::noting::run_thread;
+use crate::noting::{NotingRoom, room_if, run_thread};
 use crate::pace::{Pace, PacedGate};
 use fl_core::{Core, CoreJob};
 use fl_core_run::{Gate, core_run};
@@ -103,18 +104,20 @@ fn run_paced<R: Wait, G: Gate>(
     core_thread: CoreThread,
     jobs: &[CoreJob],
     limit: u64,
-    is_recorded: bool,
+    room: Option<NotingRoom>,
 ) -> Result<FinishedCore, AllocError>
     requires ready { IsReady core_thread }
+    requires fits { RoomFits core_thread room }
     ensures ran { IfOk result (λ d. CoreThreadRan jobs.now limit core_thread d) }
 {
     let gate = PacedGate { gate, pace };
-    let ran = run_thread(rt, &gate, core_thread, jobs, limit, is_recorded);
+    let ran = run_thread(rt, &gate, core_thread, jobs, limit, room);
     pace.end();
     ran
 }
 
-// A thread for a core, or none where no thread can be made.
+// A thread for a core, or none where no thread can be made. What a recorded run wants memory for is made before the
+// thread is; where there is no memory for it, the run isn't recorded.
 fn start<'s, 'e: 's, R: Threads + Wait + Sync, G: Gate + Sync>(
     scope: &Scope<'s, &'e ()>,
     rt: &'e R,
@@ -133,6 +136,7 @@ fn start<'s, 'e: 's, R: Threads + Wait + Sync, G: Gate + Sync>(
     ensures limit { IfSome result (λ child. child.promise.limit ≡ limit) }
 {
     core_thread_sent();
+    room_sent();
     done_sent();
     law_job_shared();
     law_pace_shared();
@@ -141,12 +145,14 @@ fn start<'s, 'e: 's, R: Threads + Wait + Sync, G: Gate + Sync>(
         jobs,
         limit,
     };
+    let room = room_if(is_recorded, &core_thread);
     let run = move || -> Result<FinishedCore, AllocError>
         requires shared { IsSync R.row }
         requires gate { IsSync G.row }
         requires ready { IsReady core_thread }
+        requires fits { RoomFits core_thread room }
         ensures ran { IfOk result (λ d. CoreThreadRan jobs.entry.now limit core_thread d) }
-    { run_paced(rt, gate, pace, core_thread, jobs, limit, is_recorded) };
+    { run_paced(rt, gate, pace, core_thread, jobs, limit, room) };
     scope.spawn_with(promise, run).ok()
 }
 

@@ -1,12 +1,13 @@
 //! A core's run over sides that note what they do.
 
-ghost use Rattle.std.specs.Prelude.{◌≡◌, ◌<◌, ◌≤◌, [], length, IfOk};
+ghost use Rattle.std.specs.Prelude.{◌≡◌, ◌<◌, ◌≤◌, [], false, length, None, IfOk};
 ghost use Rattle.std.specs.Vec.{vec_capacity};
 ghost use Rattle.fl_core_run.specs.Run.{run_of};
 ghost use Rattle.fl_core_run.specs.OpeningStatus.{AreWords};
 ghost use Rattle.fl_core_run.specs.Ran.{moment, task, run_seat_of, CoreRan};
 ghost use Rattle.fl_cores_fork.specs.Runs.{shared_ways, IsLeftSound};
 ghost use Rattle.fl_cores_fork.specs.CoreThreads.{outcome_of, came_to, IsReady, CoreThreadRan};
+ghost use Rattle.fl_cores_fork.specs.Rooms.{IsRoomFor, RoomFits};
 
 use crate::core_thread::{CoreThread, FinishedCore};
 use crate::fork::{law_sound, run_one};
@@ -19,12 +20,14 @@ use fl_ring::SharedSide;
 use std::alloc::{AllocError, Global};
 use std::sync::Wait;
 
-// All that a recorded run wants memory for beside what its sides note. It is there before the run begins, so that
-// want of memory costs the record, and not the report.
+/// All that a recorded run wants memory for, but for notes beyond the first of each side. It is there before the
+/// core's thread is: so no thread asks for it as it starts, and want of memory costs the record, not the report.
 #[derive(Drop)]
-struct NotingRoom {
+pub(crate) struct NotingRoom {
     // for the sides that note
     sides: Vec<RecordedSide>,
+    // what they note in: a record for each
+    records: Vec<SideRecord>,
     behind: RoomBehind,
 }
 
@@ -36,15 +39,22 @@ struct RoomBehind {
     records: Vec<SideRecord>,
 }
 
-// Sides that note what they do from here on.
-fn noting(alloc: Global, rings: Vec<SharedSide>, room: Vec<RecordedSide>) -> Vec<RecordedSide>
+// Sides that note what they do from here on, each in a record of its own.
+fn noting(
+    rings: Vec<SharedSide>,
+    room: Vec<RecordedSide>,
+    records: Vec<SideRecord>,
+) -> Vec<RecordedSide>
     requires none { room.items ≡ [] }
     requires fits { length rings.items ≤ vec_capacity room }
+    requires as_many { length records.items ≡ length rings.items }
     ensures same { result.items ≡ rings.items }
 {
     let mut sides = room;
+    let mut records = records;
     for side in rings {
-        sides.push_reserved(RecordedSide::new(alloc, side));
+        let record = records.pop().unwrap();
+        sides.push_reserved(RecordedSide::over(side, record));
     }
     sides
 }
@@ -72,16 +82,17 @@ fn noted(
 fn over_noting(
     running: Box<RunningCore<SharedSide>>,
     room: Vec<RecordedSide>,
+    records: Vec<SideRecord>,
 ) -> RunningCore<RecordedSide>
     requires none { room.items ≡ [] }
     requires fits { length running.value.rings.items ≤ vec_capacity room }
+    requires as_many { length records.items ≡ length running.value.rings.items }
     ensures same { run_of result ≡ run_of running.value }
 {
     let running = Box::into_inner(running);
-    let alloc = running.alloc;
-    let none: Vec<RecordedSide> = Vec::new(alloc);
+    let none: Vec<RecordedSide> = Vec::new(running.alloc);
     let (running, rings) = running.with_rings(none);
-    let (running, _) = running.with_rings(noting(alloc, rings, room));
+    let (running, _) = running.with_rings(noting(rings, room, records));
     running
 }
 
@@ -167,9 +178,7 @@ fn run_noting<R: Wait, G: Gate>(
     limit: u64,
 ) -> Result<FinishedCore, AllocError>
     requires ready { IsReady core_thread }
-    requires none { room.sides.items ≡ [] }
-    requires fits { length core_thread.running.value.rings.items ≤ vec_capacity room.sides }
-    requires behind { room.behind.sides.items ≡ [] }
+    requires fits { IsRoomFor core_thread room }
     ensures ran { IfOk result (λ d. CoreThreadRan jobs.now limit core_thread d) }
 {
     let CoreThread {
@@ -177,9 +186,13 @@ fn run_noting<R: Wait, G: Gate>(
         plan,
         run_seat,
     } = core_thread;
-    let NotingRoom { sides, behind } = room;
+    let NotingRoom {
+        sides,
+        records,
+        behind,
+    } = room;
     let mut run_seat = run_seat;
-    let mut running = over_noting(running, sides);
+    let mut running = over_noting(running, sides, records);
     match run_over(rt, gate, &mut running, &plan, jobs, limit, &mut run_seat) {
         Ok(part) => finished(running, plan, run_seat, part, behind),
         Err(_) => Err(AllocError),
@@ -216,38 +229,57 @@ fn room_behind(alloc: Global, count: usize) -> Result<RoomBehind, AllocError>
     })
 }
 
+// So many records in which nothing is noted yet, with room for the first notes.
+fn fresh_records(alloc: Global, count: usize) -> Result<Vec<SideRecord>, AllocError>
+    ensures many { IfOk result (λ records. length records.items ≡ count) }
+{
+    let mut records = Vec::with_capacity(alloc, count)?;
+    for _ in 0..count {
+        records.push(SideRecord::with_room(alloc)?)?;
+    }
+    Ok(records)
+}
+
 // Room for as many sides as a core has, before its run and behind it.
 fn room_for(core_thread: &CoreThread) -> Result<NotingRoom, AllocError>
-    ensures none { IfOk result (λ room. room.sides.items ≡ []) }
-    ensures fits { IfOk result (λ room. length core_thread.now.running.value.rings.items ≤ vec_capacity room.sides) }
-    ensures behind { IfOk result (λ room. room.behind.sides.items ≡ []) }
+    ensures fits { IfOk result (IsRoomFor core_thread.now) }
 {
     let alloc = core_thread.running.alloc;
     let count = core_thread.running.rings.as_slice().len();
-    let behind = room_behind(alloc, count)?;
-    let mut sides = Vec::new(alloc);
-    sides.reserve(count)?;
-    Ok(NotingRoom { sides, behind })
+    Ok(NotingRoom {
+        sides: Vec::with_capacity(alloc, count)?,
+        records: fresh_records(alloc, count)?,
+        behind: room_behind(alloc, count)?,
+    })
 }
 
-/// A core's whole run on its thread: over sides that note what they do, where that is wanted and there is
-/// memory for it.
+/// Room for a core's recorded run, where it is to be recorded and there is memory for that.
+pub(crate) fn room_if(is_recorded: bool, core_thread: &CoreThread) -> Option<NotingRoom>
+    ensures fits { RoomFits core_thread.now result }
+    ensures none { is_recorded ≡ false → result ≡ None }
+{
+    if !is_recorded {
+        return None;
+    }
+    room_for(core_thread).ok()
+}
+
+/// A core's whole run on its thread: over sides that note what they do, where there is room for that. Where there is
+/// none, the run isn't recorded.
 pub(crate) fn run_thread<R: Wait, G: Gate>(
     rt: &R,
     gate: &G,
     core_thread: CoreThread,
     jobs: &[CoreJob],
     limit: u64,
-    is_recorded: bool,
+    room: Option<NotingRoom>,
 ) -> Result<FinishedCore, AllocError>
     requires ready { IsReady core_thread }
+    requires fits { RoomFits core_thread room }
     ensures ran { IfOk result (λ d. CoreThreadRan jobs.now limit core_thread d) }
 {
-    if !is_recorded {
-        return run_one(rt, gate, core_thread, jobs, limit);
-    }
-    match room_for(&core_thread) {
-        Ok(room) => run_noting(rt, gate, core_thread, room, jobs, limit),
-        Err(_) => run_one(rt, gate, core_thread, jobs, limit),
+    match room {
+        Some(room) => run_noting(rt, gate, core_thread, room, jobs, limit),
+        None => run_one(rt, gate, core_thread, jobs, limit),
     }
 }

@@ -69,13 +69,15 @@ impl Pace {
         self.come.store(FREE, Ordering::SeqCst);
     }
 
-    // A core comes to its next turn. Gives to how many turns all together have come when each has come to as many.
+    // A core comes to its next turn. Gives the count that is reached when each core has come to as many turns. Behind
+    // the pace's end it is reached already.
     fn come(&self) -> u64 {
         if self.come.load(Ordering::SeqCst) >= FREE {
             return 0;
         }
         let come = self.come.fetch_add(1, Ordering::SeqCst).saturating_add(1);
-        come.checked_next_multiple_of(self.cores).unwrap_or(0)
+        let all = come.checked_next_multiple_of(self.cores).unwrap_or(0);
+        all.min(FREE)
     }
 
     // Waits until all together have come to so many turns. Behind a wait in vain no core keeps step.

@@ -1,5 +1,5 @@
 -- What a side of a ring noted, in numbers.
-use Rattle.std.specs.Prelude.{ℕ, Bool, List}
+use Rattle.std.specs.Prelude.{ℕ, Bool, true, List, []}
 use Rattle.fl_cores_shares.specs.declared.recorded_side.FragmentWait.{FragmentWait}
 use Rattle.fl_cores_shares.specs.declared.recorded_side.SideRecord.{SideRecord}
 
@@ -28,4 +28,17 @@ noted_of r = record {
   refused = r.refused.items;
   refusing = r.refusing;
   is_whole = r.is_whole;
+}
+
+-- the record of a side that neither looked nor put
+abbrev pub nothing_noted : TheSideRecord
+nothing_noted = record {
+  seen = 0;
+  taken = 0;
+  missed = [];
+  missing = 0;
+  placed = 0;
+  refused = [];
+  refusing = 0;
+  is_whole = true;
 }

@@ -4,13 +4,19 @@ ghost use Rattle.std.specs.Prelude.{◌≡◌, ◌%◌, length, IfOk};
 ghost use Rattle.fl_link.specs.Cursor.{epoch_at};
 ghost use Rattle.fl_ring.specs.SharedSeats.{front_seen};
 ghost use Rattle.fl_ring.specs.SharedSides.{SharedPuts, SharedTakes, side_has_room};
-ghost use Rattle.fl_cores_shares.specs.Noted.{noted_of};
+ghost use Rattle.fl_cores_shares.specs.Noted.{noted_of, nothing_noted};
 
 use fl_base::Frag;
 use fl_link::{PutFault, PutSide, Sight, TakeSide, Told};
 use fl_ring::SharedSide;
 use std::alloc::{AllocError, Global};
 use std::marker::Model;
+
+// Room for the first notes of a side, 9 KiB in all. It is to last while the threads start; behind that a side may ask
+// for more. Looks in vain want more of it than puts, which find no room on a full ring alone.
+const FIRST_MISSED: usize = 512;
+
+const FIRST_REFUSED: usize = 64;
 
 /// How often a side waited at a fragment, which is known by how many came before it: so many looks found nothing
 /// there, or so many puts found no room for it.
@@ -61,18 +67,23 @@ fn counts_of(
 }
 
 impl SideRecord {
-    /// Nothing is noted yet. Takes no memory.
-    pub fn new(alloc: Global) -> SideRecord {
-        SideRecord {
+    /// Nothing is noted yet, and there is room for the first notes: a side that begins to note asks for no memory.
+    ///
+    /// # Errors
+    /// Out of memory.
+    pub fn with_room(alloc: Global) -> Result<SideRecord, AllocError>
+        ensures none { IfOk result (λ r. noted_of r ≡ nothing_noted) }
+    {
+        Ok(SideRecord {
             seen: 0,
-            missed: Vec::new(alloc),
+            missed: Vec::with_capacity(alloc, FIRST_MISSED)?,
             placed: 0,
-            refused: Vec::new(alloc),
+            refused: Vec::with_capacity(alloc, FIRST_REFUSED)?,
             missing: 0,
             refusing: 0,
             taken: 0,
             is_whole: true,
-        }
+        })
     }
 
     /// How many looks found nothing at each fragment of the other side before it was seen; and, last, how many did
@@ -196,14 +207,11 @@ impl Model for RecordedSide {
 }
 
 impl RecordedSide {
-    /// A side that notes what it does from here on.
-    pub fn new(alloc: Global, side: SharedSide) -> RecordedSide
+    /// A side that notes in this record what it does from here on.
+    pub fn over(side: SharedSide, record: SideRecord) -> RecordedSide
         ensures side { result ≡ side }
     {
-        RecordedSide {
-            side,
-            record: SideRecord::new(alloc),
-        }
+        RecordedSide { side, record }
     }
 
     /// The side, and what it noted.
