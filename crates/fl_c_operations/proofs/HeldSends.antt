@@ -6,12 +6,23 @@ use Rattle.fl_value_data.specs.contracts.value.Call
 use Rattle.fl_machine.specs.contracts.reassemblies.Reassemblies
 use Rattle.fl_endpoint.specs.contracts.end.End
 use Rattle.fl_ring.specs.contracts.shared.duo_sides.SharedSide
+use Rattle.fl_endpoint.specs.View.{TheEnd}
 use Rattle.fl_c_operations.specs.View.{TheHeld}
+use Rattle.fl_c_operations.specs.declared.fronted.FrontedEnd as FrontedCode
+use Rattle.fl_c_operations.specs.contracts.fronted.FrontedEnd as Fronted
+use Rattle.fl_c_operations.specs.contracts.fronted.FrontedEnd.TheInside as FrontedInside
 use Rattle.fl_c_operations.specs.declared.end.HeldEnd as HeldCode
 use Rattle.fl_c_operations.specs.contracts.end.HeldEnd as Held
 use Rattle.fl_c_operations.specs.contracts.end.HeldEnd.TheInside as HeldInside
 
-held_inside : IsSend End.the_row → IsSend SharedSide.the_row → IsSend Reassemblies.the_row → IsSend Call.the_row → IsSend HeldInside.the_row
+fronted_inside : IsSend End.the_row → IsSend FrontedInside.the_row
+fronted_inside end = recorded_send (FrontedInside.the_field).row _ _ (FrontedInside.the_type).to_one
+    (struct_send (shape FrontedInside.the_type) (end, (search (sendable, crosses) depth 40, tt)))
+
+pub fronted_sends : IsSend End.the_row → IsSend Fronted.the_row
+fronted_sends end = view_send FrontedInside.the_row TheEnd FrontedCode.the_code Fronted.the_view Fronted.the_invariant (fronted_inside end)
+
+held_inside : IsSend Fronted.the_row → IsSend SharedSide.the_row → IsSend Reassemblies.the_row → IsSend Call.the_row → IsSend HeldInside.the_row
 held_inside end side calls call = recorded_send (HeldInside.the_field).row _ _ (HeldInside.the_type).to_one
     (struct_send (shape HeldInside.the_type) (
       search (sendable, crosses) depth 20,
@@ -30,5 +41,5 @@ held_inside end side calls call = recorded_send (HeldInside.the_field).row _ _ (
       ),
     ))
 
-pub held_sends : IsSend End.the_row → IsSend SharedSide.the_row → IsSend Reassemblies.the_row → IsSend Call.the_row → IsSend Held.the_row
+pub held_sends : IsSend Fronted.the_row → IsSend SharedSide.the_row → IsSend Reassemblies.the_row → IsSend Call.the_row → IsSend Held.the_row
 held_sends end side calls call = view_send HeldInside.the_row TheHeld HeldCode.the_code Held.the_view Held.the_invariant (held_inside end side calls call)

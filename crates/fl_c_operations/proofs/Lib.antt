@@ -1,10 +1,13 @@
 mod After
+mod Fronts
 mod Gives
 mod HandleSends
 mod HeldSends
 mod Messages
 mod Refused
 mod RunSends
+mod Sent
+mod Shorts
 mod Sizes
 mod Starts
 mod Taped

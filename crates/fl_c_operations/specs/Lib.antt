@@ -2,7 +2,9 @@ pub mod Numbers
 pub mod Sides
 pub mod View
 pub mod Calls
+pub mod Shorts
 pub mod After
+pub mod Fronts
 pub mod Ends
 pub mod Runs
 pub mod Making

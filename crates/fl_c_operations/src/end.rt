@@ -1,10 +1,6 @@
 //! An end that owns its side and its place, and its operations.
 
-ghost use Rattle.std.specs.Prelude.{◌≡◌, true, None, Err, IfOk};
-ghost use Rattle.fl_value_data.specs.Value.{TheCall};
-ghost use Rattle.fl_value_data.specs.Fits.{fits_of};
-ghost use Rattle.fl_endpoint.specs.View.{interface_in};
-ghost use Rattle.fl_endpoint.specs.Events.{Calls};
+ghost use Rattle.std.specs.Prelude.{◌≡◌, None, IfOk};
 ghost use Rattle.fl_c_operations.specs.Sides.{Tells};
 ghost use Rattle.fl_c_operations.specs.View.{IsNewEnd};
 ghost use Rattle.fl_c_operations.specs.Ends.{called_as, received_as, handled_in};
@@ -12,6 +8,7 @@ ghost use Rattle.fl_c_operations.specs.Ends.{CallsBy, WritesBy, ReceivesNext, Re
 
 use crate::answer::{Outcome, UseFault};
 use crate::calls::{put_numbers, read_numbers};
+use crate::fronted::FrontedEnd;
 use crate::operation::Operation;
 use crate::side::tell;
 use fl_base::{Circuit, MsgNo};
@@ -27,7 +24,7 @@ use std::marker::Model;
 #[derive(Drop)]
 pub struct HeldEnd {
     alloc: Global,
-    end: End,
+    end: FrontedEnd,
     side: SharedSide,
     calls: Reassemblies,
     handled: Option<Call>,
@@ -62,24 +59,6 @@ fn called(answer: Result<(), EndFault>) -> Result<Outcome, UseFault>
     }
 }
 
-// What a fitting call comes to for which memory ran out: what the end refuses it for, else the want of memory.
-#[cold]
-#[inline(never)]
-fn without_memory(end: &End) -> EndFault
-    ensures refuses { (c : TheCall) → fits_of (interface_in end.now) c ≡ true → Calls end.now c (Err result) end.now }
-{
-    if !end.is_bound() {
-        return EndFault::NotBound;
-    }
-    if end.is_failed() {
-        return EndFault::Failed;
-    }
-    if end.is_busy() {
-        return EndFault::Busy;
-    }
-    EndFault::Memory
-}
-
 // What a receive comes to, as it is told, and the call that stays to be read.
 #[inline]
 fn received(answer: Result<ReceiveAnswer, EndFault>) -> (Result<Outcome, UseFault>, Option<Call>)
@@ -107,9 +86,10 @@ impl HeldEnd {
         let end = End::new(alloc, program, Circuit(0))?;
         let mut calls = Reassemblies::new(alloc);
         end.add_place(&mut calls)?;
+        let fronted = FrontedEnd::new(end);
         Ok(HeldEnd {
             alloc,
-            end,
+            end: fronted,
             side,
             calls,
             handled: None,
@@ -126,12 +106,23 @@ impl HeldEnd {
     pub fn call(&mut self, numbers: &[u64]) -> Result<Outcome, UseFault>
         ensures calls { CallsBy self.old numbers.now result self.new }
     {
+        match self.end.short_frag(numbers) {
+            Some(frag) => called(self.end.call_frag(frag)),
+            None => self.call_by_values(numbers),
+        }
+    }
+
+    // Makes the call of these numbers, by its values.
+    #[inline(never)]
+    fn call_by_values(&mut self, numbers: &[u64]) -> Result<Outcome, UseFault>
+        ensures calls { CallsBy self.old numbers.now result self.new }
+    {
         let read = match read_numbers(self.alloc, self.end.program(), numbers) {
             Ok(read) => read,
             Err(fault) => return Err(fault),
         };
         let Some(call) = read else {
-            return called(Err(without_memory(&self.end)));
+            return called(Err(self.end.without_memory()));
         };
         called(self.end.call(&call, &mut self.spare))
     }

@@ -9,6 +9,8 @@
 //! - `operation.rt`: the operations, by number
 //! - `side.rt`: operations at a side of a ring
 //! - `end.rt`: an end with its side and place, and operations at it (`specs/Ends.antt`)
+//! - `fronted.rt`: an end with the only fragment of a call in front of what it sends (`specs/Fronts.antt`)
+//! - `short.rt`: calls of one fragment as numbers, without values (`specs/Shorts.antt`)
 //! - `calls.rt`: calls as numbers (`specs/Calls.antt`); `tapes.rt`: whether a tape is a call's, where memory ran out
 //! - `program.rt`, `sender.rt`, `receiver.rt`: a program alone, and runs of its stubs alone (`specs/Runs.antt`)
 //! - `making.rt`: the ends, or the program, of a text or an image (`specs/Making.antt`)
@@ -18,6 +20,7 @@
 mod answer;
 mod calls;
 mod end;
+mod fronted;
 mod handing;
 mod handle;
 mod making;
@@ -26,6 +29,7 @@ mod program;
 mod receiver;
 mod sender;
 mod sending;
+mod short;
 mod side;
 mod tapes;
 

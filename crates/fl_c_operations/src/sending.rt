@@ -8,6 +8,7 @@ ghost use Rattle.fl_machine.specs.contracts.send.SendRun as SendRunRows;
 ghost use Rattle.fl_machine.specs.contracts.recv.RecvRun as RecvRunRows;
 ghost use Rattle.fl_endpoint.specs.contracts.end.End as EndRows;
 ghost use Rattle.fl_ring.specs.contracts.shared.duo_sides.SharedSide as SharedSideRows;
+ghost use Rattle.fl_c_operations.specs.contracts.fronted.FrontedEnd as FrontedRows;
 ghost use Rattle.fl_c_operations.specs.contracts.end.HeldEnd as HeldRows;
 ghost use Rattle.fl_c_operations.specs.contracts.program.HeldProgram as HeldProgramRows;
 ghost use Rattle.fl_c_operations.specs.contracts.sender.HeldSender as SenderRows;
@@ -46,6 +47,12 @@ fn end_sent()
     sends::<End>();
 }
 
+fn fronted_sent()
+    ensures sent { IsSend FrontedRows.the_row }
+{
+    end_sent();
+}
+
 fn calls_sent()
     ensures sent { IsSend ReassembliesRows.the_row }
 {
@@ -62,7 +69,7 @@ fn side_sent()
 fn held_sent()
     ensures sent { IsSend HeldRows.the_row }
 {
-    end_sent();
+    fronted_sent();
     calls_sent();
     side_sent();
     call_sent();

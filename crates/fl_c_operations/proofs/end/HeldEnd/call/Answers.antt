@@ -1,33 +1,19 @@
-use Rattle.std.proofs.Common.{◌≡◌, inr, refl, subst, Err}
-use Rattle.fl_value_data.specs.Value.{call_of}
-use Rattle.fl_compile.specs.declared.program.Program.{Program}
-use Rattle.fl_compile.specs.Programs.{program_of}
-use Rattle.fl_c_operations.specs.Calls.{AreCall}
+use Rattle.std.proofs.Common.{◌≡◌, inr, refl, subst}
 use Rattle.fl_c_operations.specs.View.{TheHeld}
 use Rattle.fl_c_operations.specs.Ends.{CallsBy}
 use Rattle.fl_c_operations.proofs.end.HeldEnd.call.Goals as goal
 
--- memory ran out for the call that the numbers are
-pub returns-in_default : goal.returns-in_default
-returns-in_default c =
-    let view : TheHeld = record { end = c.self.inside.end; side = c.self.inside.side; calls = c.self.inside.calls; handled = c.self.inside.handled } in
-    let same : view ≡ c.args.self.now = cc in
-    let lacking = rw c.in_default.is at c.in-Ok.ensures.reads in
-    let are = subst (λ (p : Program). AreCall (program_of p) c.args.numbers.now lacking.0) c.program.ensures.program lacking.1 in
-    record {
-      calls = subst (λ (h : TheHeld). CallsBy h c.args.numbers.now c.called.result h) same
-          (inr (lacking.0, Err c.without_memory.result, are, c.without_memory.ensures.refuses lacking.0 are.3.fits, c.called.ensures.told, (refl, refl, refl)));
-    }
+pub call_frag-requires : goal.call_frag-requires
+call_frag-requires c = record { own = c.in-Some.ensures.short.1.own }
 
--- the call is made, or the end refuses it
-pub returns : goal.returns
-returns c =
+-- the only fragment of the call is in front
+pub returns-in-Some : goal.returns-in-Some
+returns-in-Some c =
     let view : TheHeld = record { end = c.self.inside.end; side = c.self.inside.side; calls = c.self.inside.calls; handled = c.self.inside.handled } in
-    let after : TheHeld = record { end = c.call.new.self; side = c.self.inside.side; calls = c.self.inside.calls; handled = c.self.inside.handled } in
+    let after : TheHeld = record { end = c.call_frag.new.self; side = c.self.inside.side; calls = c.self.inside.calls; handled = c.self.inside.handled } in
     let same : view ≡ c.args.self.now = cc in
-    let read = rw c.in-Some.is at c.in-Ok.ensures.reads in
-    let are = subst (λ (p : Program). AreCall (program_of p) c.args.numbers.now (call_of c.in-Some.call)) c.program.ensures.program read in
+    let short = c.in-Some.ensures.short in
     record {
-      calls = subst (λ (h : TheHeld). CallsBy h c.args.numbers.now c.called-2.result after) same
-          (inr (call_of c.in-Some.call, c.call.result, are, c.call.ensures.calls, c.called-2.ensures.told, (refl, refl, refl)));
+      calls = subst (λ (h : TheHeld). CallsBy h c.args.numbers.now c.called.result after) same
+          (inr (short.0, c.call_frag.result, short.1.call, c.call_frag.ensures.calls short.0 short.1.call.3.fits short.1.frags, c.called.ensures.told, (refl, refl, refl)));
     }

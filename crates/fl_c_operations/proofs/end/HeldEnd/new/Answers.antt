@@ -1,9 +1,13 @@
-use Rattle.std.proofs.Common.{List, refl, subst}
+use Rattle.std.proofs.Common.{List, [], ◌∙◌, refl, sym, subst}
 use Rattle.fl_machine.specs.Reassembling.{TheReassembly}
+use Rattle.fl_endpoint.specs.View.{TheEnd}
 use Rattle.fl_endpoint.specs.Lent.{AddsPlace}
 use Rattle.fl_c_operations.proofs.end.HeldEnd.new.Goals as goal
 
 pub returns : goal.returns
 returns c =
     let adds = λ (calls : List TheReassembly). AddsPlace c.in_ok-end.end calls c.add_place.new.calls in
-    record { made = (c.in_ok-end.ensures.made, refl, subst adds c.new-calls.ensures.none c.in_ok-add_place.ensures.added, refl) }
+    let placed = subst adds c.new-calls.ensures.none c.in_ok-add_place.ensures.added in
+    record {
+      made = (c.new-fronted.ensures.same ∙ c.in_ok-end.ensures.made, refl, subst (λ (e : TheEnd). AddsPlace e [] c.add_place.new.calls) (sym c.new-fronted.ensures.same) placed, refl);
+    }

@@ -1,0 +1,305 @@
+-- An end with a fragment in front of what it sends.
+use Rattle.std.proofs.Common.{◌≡◌, ℕ, ◌+◌, ◌<◌, ◌≤◌, ◌&&◌, Bool, true, false, List, [], ◌∷◌, ◌++◌, length, Option, Some, None, Result, Ok, Err, refl, sym, ap, subst, ◌∙◌, arith, length-append}
+use Rattle.std.specs.Prelude.{IsSome, IsSomeAnd, slice_get}
+use Rattle.std.specs.Option.{option_map}
+use Rattle.std.specs.Cmp.{second_so}
+use Rattle.std.proofs.lemmas.Bool.{eqb-true}
+use Rattle.fl_base.specs.declared.fragment.Frag.{Frag}
+use Rattle.fl_value_data.specs.Value.{TheCall, call_of}
+use Rattle.fl_value_data.specs.Fits.{fits_of}
+use Rattle.fl_wire.specs.Payload.{frags_on}
+use Rattle.fl_link.specs.Looks.{Look}
+use Rattle.fl_machine.specs.Reassembling.{TheReassembly}
+use Rattle.fl_compile.specs.Programs.{program_of}
+use Rattle.fl_endpoint.specs.declared.answer.ReceiveAnswer.{ReceiveAnswer}
+use Rattle.fl_endpoint.specs.declared.answer.ReceiveAnswer.TheVariants.{Handle, Part, Quiet, Empty, HeldBack}
+use Rattle.fl_endpoint.specs.declared.fault.EndFault.{EndFault}
+use Rattle.fl_endpoint.specs.declared.fault.EndFault.TheVariants.{Spent, Busy, UnknownMessage, Misfit, NotBound, Failed, Wire, Memory}
+use Rattle.fl_endpoint.specs.View.{TheOutgoing, TheEnd, number_or_0, interface_in, plan_in, frags_from, has_rules, rule_at, reply_to, holds_back, are_some, begun, goes_on, queued_behind, queued, queued_if, with_handled, with_parts}
+use Rattle.fl_endpoint.specs.Events.{IsReady, AreCall, Calls, Receives, SetsRule}
+use Rattle.fl_endpoint.specs.Lent.{IsOf, IsPlaceOf, receipt, ReceivesAt}
+use Rattle.fl_endpoint.specs.Accounts.{Sound}
+use Rattle.fl_endpoint.specs.Stored.{IsOwn}
+use Rattle.fl_c_operations.proofs.Sent.{some_frags, idle_end, has_room}
+use Rattle.fl_c_operations.specs.Shorts.{IsShort}
+use Rattle.fl_c_operations.specs.Fronts.{all_behind, all_of, with_outgoing, behind_frag, behind, IsFront, IsFrontOf, holds_all, IsShortFrom}
+
+-- ---- what is to be sent
+
+-- nothing waits where nothing is in transmission
+abbrev pub WaitsBehind : TheOutgoing → Type 0
+WaitsBehind o = o.unwritten ≡ [] → o.waiting ≡ []
+
+pub sound_waits : (s : TheEnd) → Sound s → WaitsBehind s.outgoing
+sound_waits s sound idle = ap (λ (o : TheOutgoing). o.waiting) (idle_end s sound idle)
+
+begins_at : (us : List Frag) (o : TheOutgoing) (f : Frag) → us ≡ [] → queued_behind us o (f ∷ []) ≡ begun (f ∷ []) (all_behind us o.waiting)
+begins_at [] o f e = refl
+begins_at (u ∷ us) o f e = absurd (cc)
+
+-- one more waits behind all others
+queued_at : (us : List Frag) (o : TheOutgoing) (g : Frag) (gs : List Frag) → o.unwritten ≡ us → (us ≡ [] → o.waiting ≡ [])
+    → all_behind us o.waiting ++ (g ∷ gs) ∷ [] ≡ all_of (queued_behind us o (g ∷ gs))
+queued_at [] o g gs e none =
+    ap (λ (ws : List (List Frag)). ws ++ (g ∷ gs) ∷ []) (none refl) ∙ sym (ap (λ (ws : List (List Frag)). (g ∷ gs) ∷ ws) (none refl))
+queued_at (u ∷ us) o g gs e none = sym (ap (λ (vs : List Frag). all_behind vs (o.waiting ++ (g ∷ gs) ∷ [])) e)
+
+all_queued : (o : TheOutgoing) (gs : List Frag) → 0 < length gs → WaitsBehind o → all_of o ++ gs ∷ [] ≡ all_of (queued o gs)
+all_queued o [] some none = absurd (omega (arith, some))
+all_queued o (g ∷ gs) some none = queued_at o.unwritten o g gs refl none
+
+-- with what waits behind a fragment, as it was before
+abbrev with_waiting : List (List Frag) → TheOutgoing → TheOutgoing
+with_waiting ws o = record { unwritten = o.unwritten; count = o.count; waiting = ws }
+
+goes_at : (us : List Frag) (o : TheOutgoing) (g : Frag) (gs : List Frag) → o.unwritten ≡ us → goes_on (all_behind us o.waiting) ≡ o
+    → goes_on (all_of (queued_behind us o (g ∷ gs))) ≡ queued_behind us o (g ∷ gs)
+goes_at [] o g gs e goes = refl
+goes_at (u ∷ us) o g gs e goes =
+    let ws = o.waiting ++ (g ∷ gs) ∷ [] in
+    ap (λ (vs : List Frag). goes_on (all_behind vs ws)) e ∙ ap (with_waiting ws) goes
+
+goes_queued : (o : TheOutgoing) (gs : List Frag) → 0 < length gs → goes_on (all_of o) ≡ o → goes_on (all_of (queued o gs)) ≡ queued o gs
+goes_queued o [] some goes = absurd (omega (arith, some))
+goes_queued o (g ∷ gs) some goes = goes_at o.unwritten o g gs refl goes
+
+-- ---- a fragment comes to stand in front
+
+-- that is how a call of one fragment is made
+pub calls_front : (s : TheEnd) (f : Frag) (c : TheCall) → IsReady s → s.outgoing.unwritten ≡ [] → fits_of (interface_in s) c ≡ true → frags_from s c ≡ f ∷ []
+    → Calls s c (Ok tt) (behind_frag f s)
+calls_front s f c ready idle fits frags =
+    let queues : begun (f ∷ []) (all_of s.outgoing) ≡ queued s.outgoing (frags_from s c)
+    = sym (begins_at s.outgoing.unwritten s.outgoing f idle) ∙ ap (λ (fs : List Frag). queued s.outgoing fs) (sym frags) in
+    (fits, ready, idle, ap (with_outgoing s) queues)
+
+pub new_front : (s : TheEnd) (f : Frag) → Sound s → IsOwn f → IsReady s → s.outgoing.unwritten ≡ [] → IsFront f s
+new_front s f sound own ready idle =
+    let nothing = idle_end s sound idle in
+    record {
+      own = own;
+      bound = ready.0;
+      goes = subst (λ (o : TheOutgoing). goes_on (all_of o) ≡ o) (sym nothing) refl;
+      few = subst (λ (o : TheOutgoing). length (all_of o) ≤ 16) (sym nothing) (omega arith);
+    }
+
+-- it stays there where the end sends what it sent
+pub front_kept : (f : Frag) (s t : TheEnd) → t.circuit ≡ s.circuit → t.outgoing ≡ s.outgoing → IsFront f s → IsFront f t
+front_kept f s t c o h = record {
+  own = h.own;
+  bound = subst (λ (k : Option ℕ). IsSome k) (sym c) h.bound;
+  goes = subst (λ (x : TheOutgoing). goes_on (all_of x) ≡ x) (sym o) h.goes;
+  few = subst (λ (x : TheOutgoing). length (all_of x) ≤ 16) (sym o) h.few;
+}
+
+pub still_front : (p : Option Frag) (s t : TheEnd) → t.circuit ≡ s.circuit → t.outgoing ≡ s.outgoing → IsFrontOf p s → IsFrontOf p t
+still_front None s t c o h = tt
+still_front (Some f) s t c o h = front_kept f s t c o h
+
+-- the numbers of a call
+pub short_from : (s : TheEnd) (circuit : ℕ) (numbers : List ℕ) (f : Frag) → Some circuit ≡ s.circuit → (c : TheCall) × IsShort (program_of s.program) circuit numbers c f
+    → (c : TheCall) × IsShortFrom s numbers c f
+short_from s circuit numbers f e (c, short) = (
+  c,
+  record {
+    call = short.call;
+    frags = subst (λ (k : Option ℕ). frags_on (number_or_0 k) (plan_in s) (interface_in s) c ≡ f ∷ []) e short.frags;
+    own = short.own;
+  },
+)
+
+pub short_behind : (p : Option Frag) (s : TheEnd) (numbers : List ℕ) (f : Frag) → (c : TheCall) × IsShortFrom s numbers c f → (c : TheCall) × IsShortFrom (behind p s) numbers c f
+short_behind None s numbers f h = h
+short_behind (Some g) s numbers f (c, short) = (c, record { call = short.call; frags = short.frags; own = short.own })
+
+-- ---- a rule is set
+
+pub rules_behind : (p : Option Frag) (s t : TheEnd) (msg reply : ℕ) (r : Result (Unit {0}) EndFault) → SetsRule s msg reply r t → SetsRule (behind p s) msg reply r (behind p t)
+rules_behind None s t msg reply r h = h
+rules_behind (Some f) s t msg reply (Ok done) h = (h.0, h.1, h.2, ap (behind_frag f) h.3)
+rules_behind (Some f) s t msg reply (Err UnknownMessage) h = (h.0, ap (behind_frag f) h.1)
+rules_behind (Some f) s t msg reply (Err Misfit) h = (h.0, h.1, h.2, ap (behind_frag f) h.3)
+rules_behind (Some f) s t msg reply (Err Spent) h = absurd h
+rules_behind (Some f) s t msg reply (Err Busy) h = absurd h
+rules_behind (Some f) s t msg reply (Err NotBound) h = absurd h
+rules_behind (Some f) s t msg reply (Err Failed) h = absurd h
+rules_behind (Some f) s t msg reply (Err (Wire fault)) h = absurd h
+rules_behind (Some f) s t msg reply (Err Memory) h = absurd h
+
+pub rules_keep : (s t : TheEnd) (msg reply : ℕ) (r : Result (Unit {0}) EndFault) → SetsRule s msg reply r t → (t.circuit ≡ s.circuit) × (t.outgoing ≡ s.outgoing)
+rules_keep s t msg reply (Ok done) h = (ap (λ (x : TheEnd). x.circuit) h.3, ap (λ (x : TheEnd). x.outgoing) h.3)
+rules_keep s t msg reply (Err UnknownMessage) h = (ap (λ (x : TheEnd). x.circuit) h.1, ap (λ (x : TheEnd). x.outgoing) h.1)
+rules_keep s t msg reply (Err Misfit) h = (ap (λ (x : TheEnd). x.circuit) h.3, ap (λ (x : TheEnd). x.outgoing) h.3)
+rules_keep s t msg reply (Err Spent) h = absurd h
+rules_keep s t msg reply (Err Busy) h = absurd h
+rules_keep s t msg reply (Err NotBound) h = absurd h
+rules_keep s t msg reply (Err Failed) h = absurd h
+rules_keep s t msg reply (Err (Wire fault)) h = absurd h
+rules_keep s t msg reply (Err Memory) h = absurd h
+
+pub program_behind : (p : Option Frag) (s : TheEnd) → (behind p s).program ≡ s.program
+program_behind None s = refl
+program_behind (Some f) s = refl
+
+-- ---- a call is handled behind a fragment
+
+-- the end between two calls, with a fragment in front of these
+abbrev emptied_with : Frag → TheEnd → List (List Frag) → TheEnd
+emptied_with f s ws = record s { parts = []; outgoing = begun (f ∷ []) ws }
+
+handled_at : (f : Frag) (s : TheEnd) (reply : Option TheCall) → WaitsBehind s.outgoing
+    → behind_frag f (record s { parts = []; outgoing = queued_if s.outgoing (option_map (frags_from s) reply) })
+    ≡ record s { parts = []; outgoing = queued_if (begun (f ∷ []) (all_of s.outgoing)) (option_map (frags_from (behind_frag f s)) reply) }
+handled_at f s None none = refl
+handled_at f s (Some d) none = ap (emptied_with f s) (sym (all_queued s.outgoing (frags_from s d) (some_frags s d) none))
+
+handled_behind : (f : Frag) (s : TheEnd) (c : TheCall) → WaitsBehind s.outgoing → behind_frag f (with_handled s c) ≡ with_handled (behind_frag f s) c
+handled_behind f s c none = handled_at f s (reply_to s.rules c) none
+
+front_ruled : (f : Frag) (s : TheEnd) (c : TheCall) (rule : Option ℕ) → rule_at s.rules c.msg ≡ rule → WaitsBehind s.outgoing → IsFront f s → holds_all s ≡ false
+    → IsFront f (record s { parts = []; outgoing = queued_if s.outgoing (option_map (frags_from s) (option_map (λ (reply : ℕ). record { msg = reply; args = c.args }) rule)) })
+front_ruled f s c None is none h held = record { own = h.own; bound = h.bound; goes = h.goes; few = h.few }
+front_ruled f s c (Some reply) is none h held =
+    let d : TheCall = record { msg = reply; args = c.args } in
+    let gs = frags_from s d in
+    let some = some_frags s d in
+    let room : length (all_of s.outgoing) < 16 = has_room (behind_frag f s) reply c.msg is held h.few in
+    let long = length-append (all_of s.outgoing) (gs ∷ []) in
+    record {
+      own = h.own;
+      bound = h.bound;
+      goes = goes_queued s.outgoing gs some h.goes;
+      few = subst (λ (ws : List (List Frag)). length ws ≤ 16) (all_queued s.outgoing gs some none) (omega (arith, room, long));
+    }
+
+front_handled : (f : Frag) (s : TheEnd) (c : TheCall) → WaitsBehind s.outgoing → IsFront f s → holds_all s ≡ false → IsFront f (with_handled s c)
+front_handled f s c none h held = front_ruled f s c (rule_at s.rules c.msg) refl none h held
+
+-- ---- a fragment is taken behind one in front
+
+are_behind : (f : Frag) (s : TheEnd) (frags : List Frag) (c : TheCall) → AreCall s frags c → AreCall (behind_frag f s) frags c
+are_behind f s frags c h = record { fits = h.fits; mean = h.mean; only = h.only }
+
+-- an end that holds back has a call more than may wait behind a fragment
+not_full : (us : List Frag) (ws : List (List Frag)) → (us ≡ [] → ws ≡ []) → length (all_behind us ws) ≤ 16 → length ws ≡ 16 → ⊥
+not_full [] ws none few full = let zero : length ws ≡ 0 = ap length (none refl) in omega (arith, zero, full)
+not_full (u ∷ us) ws none few full = omega (arith, few, full)
+
+not_held : (s : TheEnd) → WaitsBehind s.outgoing → length (all_of s.outgoing) ≤ 16 → holds_back s ≡ true → ⊥
+not_held s none few held =
+    not_full s.outgoing.unwritten s.outgoing.waiting none few (eqb-true (length s.outgoing.waiting) 16 (second_so (has_rules s.rules) _ held))
+
+module _ {T : Type 0} (takes : T → Look → T → Type 0) (f : Frag) (p q : T) where
+  receives_behind : (s t : TheEnd) (r : Result ReceiveAnswer EndFault) → WaitsBehind s.outgoing → IsFront f s → holds_all s ≡ false → Receives takes s p r t q
+      → Receives takes (behind_frag f s) p r (behind_frag f t) q × IsFront f t
+  receives_behind s t (Ok (Handle call)) none front held (opened, (g, m, is, sees, gets, (are, t_is))) = (
+    ((opened.0, held), (g, m, is, sees, gets, (are_behind f s (s.parts ++ g ∷ []) (call_of call) are, ap (behind_frag f) t_is ∙ handled_behind f s (call_of call) none))),
+    subst (λ (x : TheEnd). IsFront f x) (sym t_is) (front_handled f s (call_of call) none front held),
+  )
+  receives_behind s t (Ok Part) none front held (opened, (g, m, is, sees, gets, (part, t_is))) = (
+    ((opened.0, held), (g, m, is, sees, gets, (part, ap (behind_frag f) t_is))),
+    front_kept f s t (ap (λ (x : TheEnd). x.circuit) t_is) (ap (λ (x : TheEnd). x.outgoing) t_is) front,
+  )
+  receives_behind s t (Ok Quiet) none front held (opened, looks, t_is) = (
+    ((opened.0, held), looks, ap (behind_frag f) t_is),
+    front_kept f s t (ap (λ (x : TheEnd). x.circuit) t_is) (ap (λ (x : TheEnd). x.outgoing) t_is) front,
+  )
+  receives_behind s t (Ok Empty) none front held (opened, looks, t_is) = (
+    ((opened.0, held), looks, ap (behind_frag f) t_is),
+    front_kept f s t (ap (λ (x : TheEnd). x.circuit) t_is) (ap (λ (x : TheEnd). x.outgoing) t_is) front,
+  )
+  receives_behind s t (Ok HeldBack) none front held h = absurd (not_held s none front.few h.1)
+  receives_behind s t (Err (Wire fault)) none front held (opened, (g, is, sees, (refused, t_is))) = (
+    ((opened.0, held), (g, is, sees, (refused, ap (behind_frag f) t_is))),
+    front_kept f s t (ap (λ (x : TheEnd). x.circuit) t_is) (ap (λ (x : TheEnd). x.outgoing) t_is) front,
+  )
+  receives_behind s t (Err Memory) none front held (opened, (g, is, sees, ((c, are), t_is))) = (
+    ((opened.0, held), (g, is, sees, ((c, are_behind f s (s.parts ++ g ∷ []) c are), ap (behind_frag f) t_is))),
+    front_kept f s t (ap (λ (x : TheEnd). x.circuit) t_is) (ap (λ (x : TheEnd). x.outgoing) t_is) front,
+  )
+  receives_behind s t (Err NotBound) none front held (unbound, looks, t_is) = (
+    (unbound, looks, ap (behind_frag f) t_is),
+    front_kept f s t (ap (λ (x : TheEnd). x.circuit) t_is) (ap (λ (x : TheEnd). x.outgoing) t_is) front,
+  )
+  receives_behind s t (Err Failed) none front held (failed, looks, t_is) = (
+    (failed, looks, ap (behind_frag f) t_is),
+    front_kept f s t (ap (λ (x : TheEnd). x.circuit) t_is) (ap (λ (x : TheEnd). x.outgoing) t_is) front,
+  )
+  receives_behind s t (Err Spent) none front held h = absurd h
+  receives_behind s t (Err Busy) none front held h = absurd h
+  receives_behind s t (Err UnknownMessage) none front held h = absurd h
+  receives_behind s t (Err Misfit) none front held h = absurd h
+
+  -- the same at the end's place
+  module _ (s t : TheEnd) (r : Result ReceiveAnswer EndFault) (none : WaitsBehind s.outgoing) (front : IsFront f s) (held : holds_all s ≡ false) (calls : List TheReassembly) (place : ℕ) (after : List TheReassembly)
+      (h : ReceivesAt takes (receipt s p r t q) calls place after) where
+    both : Receives takes (behind_frag f (with_parts s h.was.parts)) p r (behind_frag f (with_parts t h.is.parts)) q × IsFront f (with_parts t h.is.parts)
+    both = receives_behind (with_parts s h.was.parts) (with_parts t h.is.parts) r none (front_kept f s (with_parts s h.was.parts) refl refl front) held h.event.receives
+
+    pub received_at : ReceivesAt takes (receipt (behind_frag f s) p r (behind_frag f t) q) calls place after
+    received_at = record {
+      was = h.was;
+      was_there = h.was_there;
+      is = h.is;
+      event = record {
+        of = record { program = h.event.of.program; are_bare = h.event.of.are_bare };
+        program = h.event.program;
+        receives = both.0;
+      };
+      after_is = h.after_is;
+    }
+
+    pub front_after : IsFront f t
+    front_after = front_kept f (with_parts t h.is.parts) t refl refl both.1
+
+-- ---- the place
+
+weaker_at : (o : Option TheReassembly) (P Q : TheReassembly → Type 0) → ((r : TheReassembly) → P r → Q r) → IsSomeAnd o P → IsSomeAnd o Q
+weaker_at None P Q f h = absurd h
+weaker_at (Some r) P Q f h = f r h
+
+-- a place of the same program
+pub place_as : (s t : TheEnd) (calls : List TheReassembly) (place : ℕ) → s.program ≡ t.program → IsPlaceOf s calls place → IsPlaceOf t calls place
+place_as s t calls place e h =
+    weaker_at (slice_get calls place) (λ r. IsOf s r) (λ r. IsOf t r) (λ r of. record { program = of.program ∙ ap program_of e; are_bare = of.are_bare }) h
+
+-- ---- the fragment in front is put
+
+-- nothing is left in front then
+pub wrote_front : (f : Frag) (s : TheEnd) → IsFront f s → s ≡ with_outgoing s (goes_on (all_of s.outgoing))
+wrote_front f s h = sym (ap (with_outgoing s) h.goes)
+
+-- ---- how many calls are to be sent
+
+pub all_busy : (us : List Frag) (ws : List (List Frag)) → true ≡ are_some us → length ws + 1 ≡ length (all_behind us ws)
+all_busy [] ws e = absurd (cc)
+all_busy (u ∷ us) ws e = omega arith
+
+pub all_idle : (us : List Frag) (ws : List (List Frag)) → false ≡ are_some us → length ws ≡ length (all_behind us ws)
+all_idle [] ws e = refl
+all_idle (u ∷ us) ws e = absurd (cc)
+
+pub and_true : (b c : Bool) → c ≡ true → b ≡ (b && c)
+and_true true c e = sym e
+and_true false c e = refl
+
+pub and_false : (b c : Bool) → c ≡ false → false ≡ (b && c)
+and_false true c e = sym e
+and_false false c e = refl
+
+-- ---- what stands in front
+
+pub none_is : (p : Option Frag) (s : TheEnd) → p ≡ None → s ≡ behind p s
+none_is p s e = ap (λ (q : Option Frag). behind q s) (sym e)
+
+pub some_is : (p : Option Frag) (f : Frag) (s : TheEnd) → p ≡ Some f → behind_frag f s ≡ behind p s
+some_is p f s e = ap (λ (q : Option Frag). behind q s) (sym e)
+
+pub front_is : (p : Option Frag) (f : Frag) (s : TheEnd) → p ≡ Some f → IsFrontOf p s → IsFront f s
+front_is p f s e h = subst (λ (q : Option Frag). IsFrontOf q s) e h
+
+pub front_at : (p : Option Frag) (f : Frag) (s : TheEnd) → p ≡ Some f → IsFront f s → IsFrontOf p s
+front_at p f s e h = subst (λ (q : Option Frag). IsFrontOf q s) (sym e) h
+
+pub no_front : (p : Option Frag) (s : TheEnd) → p ≡ None → IsFrontOf p s
+no_front p s e = subst (λ (q : Option Frag). IsFrontOf q s) (sym e) tt

@@ -1,0 +1,42 @@
+use Rattle.std.proofs.Common.{◌≡◌, true, [], ◌∷◌, Ok, Err, refl, ap, subst, ◌∙◌}
+use Rattle.fl_value_data.specs.Value.{TheCall}
+use Rattle.fl_value_data.specs.Fits.{fits_of}
+use Rattle.fl_endpoint.specs.View.{TheEnd, interface_in, frags_from}
+use Rattle.fl_endpoint.specs.Events.{Calls}
+use Rattle.fl_c_operations.specs.Fronts.{behind_frag}
+use Rattle.fl_c_operations.proofs.Fronts.{none_is, some_is, front_is, calls_front, new_front}
+use Rattle.fl_c_operations.proofs.fronted.FrontedEnd.call_frag.Goals as goal
+
+pub refused_behind-requires : goal.refused_behind-requires
+refused_behind-requires c =
+    let front = front_is c.self.inside.front c.in-Some.field-0 c.self.inside.end c.in-Some.is c.self.invariant in
+    record { bound = front.bound }
+
+pub returns-in-Some : goal.returns-in-Some
+returns-in-Some c =
+    let h = c.self.inside in
+    let same = some_is h.front c.in-Some.field-0 h.end c.in-Some.is ∙ c.self.view_is in
+    let refuses = subst (λ (s : TheEnd). (call : TheCall) → fits_of (interface_in s) call ≡ true → Calls s call (Err c.refused_behind.result) s) same
+    (c.refused_behind.ensures.refuses c.in-Some.field-0) in
+    record { calls = λ call fits frags. refuses call fits; program = refl }
+
+pub returns-in-Some-refused : goal.returns-in-Some-refused
+returns-in-Some-refused c =
+    let h = c.self.inside in
+    let same = none_is h.front h.end c.in-None.is ∙ c.self.view_is in
+    let refuses = subst (λ (s : TheEnd). (call : TheCall) → fits_of (interface_in s) call ≡ true → Calls s call (Err c.in-Some-refused.fault) s) same c.in-Some-refused.ensures.some in
+    record { calls = λ call fits frags. refuses call fits; program = refl }
+
+pub invariant_of-self : goal.invariant_of-self
+invariant_of-self c =
+    new_front c.self.inside.end c.args.frag c.law_sound.ensures.sound c.requires.own c.in-None-refused.ensures.none.0 c.in-None-refused.ensures.none.1
+
+pub returns-in-None-refused : goal.returns-in-None-refused
+returns-in-None-refused c =
+    let h = c.self.inside in
+    let same = none_is h.front h.end c.in-None.is ∙ c.self.view_is in
+    record {
+      calls = subst (λ (s : TheEnd). (call : TheCall) → fits_of (interface_in s) call ≡ true → frags_from s call ≡ c.args.frag ∷ [] → Calls s call (Ok tt) (behind_frag c.args.frag h.end)) same
+          (λ call fits frags. calls_front h.end c.args.frag call c.in-None-refused.ensures.none.0 c.in-None-refused.ensures.none.1 fits frags);
+      program = ap (λ (s : TheEnd). s.program) same;
+    }

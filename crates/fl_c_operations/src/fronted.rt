@@ -1,0 +1,286 @@
+//! An end with the only fragment of a call in front of what it sends: such a call needs no values, and no memory.
+
+ghost use Rattle.std.specs.Prelude.{◌≡◌, ◌∷◌, [], true, length, Err, IsSome, IfSome, IfNone};
+ghost use Rattle.fl_base.specs.declared.fragment.Frag.{Frag};
+ghost use Rattle.fl_ring.specs.SharedSides.{SharedPuts};
+ghost use Rattle.fl_value_data.specs.Value.{TheCall, call_of};
+ghost use Rattle.fl_value_data.specs.Fits.{fits_of};
+ghost use Rattle.fl_endpoint.specs.View.{interface_in, frags_from, is_busy};
+ghost use Rattle.fl_endpoint.specs.Events.{IsReady, Calls, Writes, SetsRule};
+ghost use Rattle.fl_endpoint.specs.Lent.{IsPlaceOf, receipt, ReceivesAt};
+ghost use Rattle.fl_endpoint.specs.Stored.{IsOwn};
+ghost use Rattle.fl_c_operations.specs.Fronts.{all_of, behind_frag, IsFront, holds_all, IsShortFrom};
+
+use crate::short::short_frag;
+use fl_base::{Frag, MsgNo};
+use fl_compile::Program;
+use fl_endpoint::{End, EndFault, ReceiveAnswer, WriteAnswer};
+use fl_link::{PutFault, TakeSide};
+use fl_machine::Reassemblies;
+use fl_ring::SharedSide;
+use fl_value_data::Call;
+use std::marker::Model;
+
+/// An end, and the only fragment of a call in front of what it sends, until that is put.
+#[derive(Drop)]
+pub(crate) struct FrontedEnd {
+    end: End,
+    front: Option<Frag>,
+}
+
+impl Model for FrontedEnd {
+    ghost use Rattle.std.specs.Coded.{codes};
+    ghost use Rattle.fl_compile.specs.contracts.program.Program.{the_row};
+    ghost use Rattle.fl_endpoint.specs.View.{TheEnd};
+    ghost use Rattle.fl_c_operations.specs.Fronts.{behind, IsFrontOf};
+
+    ghost Value = { TheEnd };
+
+    ghost coded = { Prim.hlevel (codes, the_row.coded) };
+
+    ghost view = { λ h. behind h.front h.end };
+
+    ghost invariant = { λ h. IsFrontOf h.front h.end };
+}
+
+// What a fitting call is refused for, but for the want of memory.
+#[inline]
+fn refused(end: &End) -> Option<EndFault>
+    ensures some { IfSome result (λ fault. (c : TheCall) → fits_of (interface_in end.now) c ≡ true → Calls end.now c (Err fault) end.now) }
+    ensures none { IfNone result (IsReady end.now × (end.now.outgoing.unwritten ≡ [])) }
+{
+    if !end.is_bound() {
+        return Some(EndFault::NotBound);
+    }
+    if end.is_failed() {
+        return Some(EndFault::Failed);
+    }
+    if end.is_busy() {
+        return Some(EndFault::Busy);
+    }
+    None
+}
+
+// What a fitting call comes to for which memory ran out.
+#[inline(never)]
+fn without_memory(end: &End) -> EndFault
+    ensures refuses { (c : TheCall) → fits_of (interface_in end.now) c ≡ true → Calls end.now c (Err result) end.now }
+{
+    match refused(end) {
+        Some(fault) => fault,
+        None => EndFault::Memory,
+    }
+}
+
+// What a fitting call is refused for while a fragment stands in front.
+#[cold]
+#[inline(never)]
+fn refused_behind(end: &End) -> EndFault
+    requires bound { IsSome end.now.circuit }
+    ensures refuses { (f : Frag) (c : TheCall) → fits_of (interface_in end.now) c ≡ true → Calls (behind_frag f end.now) c (Err result) (behind_frag f end.now) }
+{
+    if end.is_failed() {
+        return EndFault::Failed;
+    }
+    EndFault::Busy
+}
+
+// The only fragment of the call of these numbers.
+#[inline(always)]
+fn short_of(end: &End, numbers: &[u64]) -> Option<Frag>
+    ensures short { IfSome result (λ f. (c : TheCall) × IsShortFrom end.now numbers.now c f) }
+{
+    let Some(circuit) = end.circuit() else {
+        return None;
+    };
+    let Some(frag) = short_frag(end.program(), circuit, numbers) else {
+        return None;
+    };
+    Some(frag)
+}
+
+// How many calls are to be sent, with the one in transmission.
+#[inline]
+fn all_calls(end: &End) -> usize
+    ensures all { result ≡ length (all_of end.now.outgoing) }
+{
+    end.law_sound();
+    let waiting = end.replies_waiting();
+    if end.is_busy() {
+        return waiting + 1;
+    }
+    waiting
+}
+
+// Whether an end takes no fragment behind one in front.
+#[inline]
+fn is_held(end: &End) -> bool
+    ensures held { result ≡ holds_all end.now }
+{
+    if all_calls(end) != 16 {
+        return false;
+    }
+    end.has_rules()
+}
+
+// Takes what stands first, behind a fragment.
+#[inline(never)]
+fn receive_behind<T: TakeSide>(
+    frag: &Frag,
+    end: &mut End,
+    from: &mut T,
+    calls: &mut Reassemblies,
+    place: usize,
+) -> Result<ReceiveAnswer, EndFault>
+    requires front { IsFront frag.now end.old }
+    requires place { IsPlaceOf end.old calls.old place }
+    ensures front { IsFront frag.now end.new }
+    ensures receives { ReceivesAt T.takes (receipt (behind_frag frag.now end.old) from.old result (behind_frag frag.now end.new) from.new)
+        calls.old place calls.new }
+    ensures place { IsPlaceOf end.new calls.new place }
+{
+    if end.is_failed() {
+        return Err(EndFault::Failed);
+    }
+    if is_held(end) {
+        return Ok(ReceiveAnswer::HeldBack);
+    }
+    end.law_sound();
+    end.receive(from, calls, place)
+}
+
+impl FrontedEnd {
+    // An end with nothing in front.
+    pub(crate) fn new(end: End) -> FrontedEnd
+        ensures same { result ≡ end }
+    {
+        FrontedEnd { end, front: None }
+    }
+
+    // The program of the binding's interface.
+    #[inline]
+    pub(crate) fn program(&self) -> &Program
+        ensures program { result.now ≡ self.now.program }
+    {
+        self.end.program()
+    }
+
+    // Whether a call is in transmission.
+    #[inline]
+    pub(crate) fn is_busy(&self) -> bool
+        ensures busy { result ≡ is_busy self.now.outgoing }
+    {
+        match &self.front {
+            Some(_) => true,
+            None => self.end.is_busy(),
+        }
+    }
+
+    // What a fitting call comes to for which memory ran out: what the end refuses it for, else the want of memory.
+    #[cold]
+    #[inline(never)]
+    pub(crate) fn without_memory(&self) -> EndFault
+        ensures refuses { (c : TheCall) → fits_of (interface_in self.now) c ≡ true → Calls self.now c (Err result) self.now }
+    {
+        match &self.front {
+            Some(_) => refused_behind(&self.end),
+            None => without_memory(&self.end),
+        }
+    }
+
+    // The only fragment of the call of these numbers.
+    #[inline(always)]
+    pub(crate) fn short_frag(&self, numbers: &[u64]) -> Option<Frag>
+        ensures short { IfSome result (λ f. (c : TheCall) × IsShortFrom self.now numbers.now c f) }
+    {
+        let Some(frag) = short_of(&self.end, numbers) else {
+            return None;
+        };
+        Some(frag)
+    }
+
+    // Makes a call of one fragment, which this is.
+    #[inline(always)]
+    pub(crate) fn call_frag(&mut self, frag: Frag) -> Result<(), EndFault>
+        requires own { IsOwn frag }
+        ensures calls { (c : TheCall) → fits_of (interface_in self.old) c ≡ true → frags_from self.old c ≡ frag ∷ [] → Calls self.old c result self.new }
+        ensures program { self.new.program ≡ self.old.program }
+    {
+        match &self.front {
+            Some(_) => Err(refused_behind(&self.end)),
+            None => match refused(&self.end) {
+                Some(fault) => Err(fault),
+                None => {
+                    self.end.law_sound();
+                    self.front = Some(frag);
+                    Ok(())
+                }
+            },
+        }
+    }
+
+    // Makes a call that fits.
+    #[inline]
+    pub(crate) fn call(&mut self, call: &Call, spare: &mut Vec<u64>) -> Result<(), EndFault>
+        requires fits { fits_of (interface_in self.old) (call_of call.now) ≡ true }
+        ensures calls { Calls self.old (call_of call.now) result self.new }
+        ensures program { self.new.program ≡ self.old.program }
+    {
+        match &self.front {
+            Some(_) => Err(refused_behind(&self.end)),
+            None => self.end.call(call, spare),
+        }
+    }
+
+    // Puts the next fragment of the call in transmission.
+    #[inline]
+    pub(crate) fn write(&mut self, side: &mut SharedSide) -> Result<WriteAnswer, EndFault>
+        ensures writes { Writes SharedPuts self.old side.old result self.new side.new }
+        ensures program { self.new.program ≡ self.old.program }
+    {
+        let Some(frag) = &self.front else {
+            return self.end.write(side);
+        };
+        if self.end.is_failed() {
+            return Err(EndFault::Failed);
+        }
+        match side.try_put(frag) {
+            Err(PutFault::Full) => Ok(WriteAnswer::Full),
+            Err(PutFault::Spent) => Err(EndFault::Spent),
+            Ok(()) => {
+                self.front = None;
+                Ok(WriteAnswer::Written {
+                    number: 1,
+                    count: 1,
+                })
+            }
+        }
+    }
+
+    // Takes what stands first, and handles the call that it makes whole.
+    #[inline]
+    pub(crate) fn receive<T: TakeSide>(
+        &mut self,
+        from: &mut T,
+        calls: &mut Reassemblies,
+        place: usize,
+    ) -> Result<ReceiveAnswer, EndFault>
+        requires place { IsPlaceOf self.old calls.old place }
+        ensures receives { ReceivesAt T.takes (receipt self.old from.old result self.new from.new) calls.old place calls.new }
+        ensures place { IsPlaceOf self.new calls.new place }
+    {
+        match &self.front {
+            Some(frag) => receive_behind(frag, &mut self.end, from, calls, place),
+            None => self.end.receive(from, calls, place),
+        }
+    }
+
+    // Sets a rule.
+    #[inline]
+    pub(crate) fn reply_rule(&mut self, msg: MsgNo, reply: MsgNo) -> Result<(), EndFault>
+        ensures sets { SetsRule self.old msg.0 reply.0 result self.new }
+        ensures program { self.new.program ≡ self.old.program }
+    {
+        self.end.reply_rule(msg, reply)
+    }
+}
