@@ -18,14 +18,13 @@ use Rattle.fl_ring.proofs.SharedWays.{runs_found, runs_stored, runs_put, runs_kn
 
 -- ---- from either side
 
-swapped : (x y z : ℕ) → ((x ≡ 0) × (y ≡ z)) ⊎ ((x ≡ z) × (y ≡ 0)) → ((y ≡ 0) × (x ≡ z)) ⊎ ((y ≡ z) × (x ≡ 0))
-swapped x y z (inl (e, d)) = inr (d, e)
-swapped x y z (inr (e, d)) = inl (d, e)
+swapped : (b c x : ℕ) → (b + x ≤ c) ⊎ (c + x ≤ b) → (c + x ≤ b) ⊎ (b + x ≤ c)
+swapped b c x (inl le) = inr le
+swapped b c x (inr le) = inl le
 
 pub turned : (b c n start : ℕ) (ws : List ℕ) (x y : SideView) → BothRun (ways b c n start) ws x y → BothRun (ways c b n start) ws y x
 turned b c n start ws x y h = record {
   few = h.few;
-  wide = h.wide;
   apart = swapped b c (8 * n) h.apart;
   there = h.back;
   back = h.there;
@@ -38,9 +37,9 @@ turned b c n start ws x y h = record {
 }
 
 -- a word of the way at b is none of the way at c
-ways_apart : (b c n i k j : ℕ) → 0 < n → k < 8 → ((b ≡ 0) × (c ≡ 8 * n)) ⊎ ((b ≡ 8 * n) × (c ≡ 0)) → c ≤ j → j < c + 8 * n → j ≢ slot b n i + k
-ways_apart b c n i k j some small (inl (e, d)) from below same = omega (arith, slot_within b n i some)
-ways_apart b c n i k j some small (inr (e, d)) from below same = omega (arith, slot_within b n i some)
+ways_apart : (b c n i k j : ℕ) → 0 < n → k < 8 → (b + 8 * n ≤ c) ⊎ (c + 8 * n ≤ b) → c ≤ j → j < c + 8 * n → j ≢ slot b n i + k
+ways_apart b c n i k j some small (inl before) from below same = omega (arith, slot_within b n i some)
+ways_apart b c n i k j some small (inr behind) from below same = omega (arith, slot_within b n i some)
 
 -- ---- numbers
 
@@ -102,7 +101,6 @@ module _ (b c n start : ℕ) (ws : List ℕ) (x y : SideView) where
       let ws' : List ℕ = set ws place v in
       record {
         few = h.few;
-        wide = length-set ws place v ∙ h.wide;
         apart = h.apart;
         there = runs_stored b n ws x.put y.take y.take.told v k h.there room few small;
         back = runs_elsewhere c n ws y.put x.take x.take.told ws' h.back (length-set ws place v) (away (length x.put.sent) k v (omega arith) h);
@@ -124,7 +122,6 @@ module _ (b c n start : ℕ) (ws : List ℕ) (x y : SideView) where
       runs_elsewhere c n ws y.put x.take x.take.told ws' h.back (length-set ws place w) (away (length x.put.sent) 7 w (omega arith) h) in
       record {
         few = h.few;
-        wide = length-set ws place w ∙ h.wide;
         apart = h.apart;
         there = runs_put b n ws x.put y.take y.take.told w h.there room seven unspent turn;
         back = runs_told c n ws' y.put x.take x.take.told (length x.take.got) stays h.back.told_got (omega arith);
@@ -143,7 +140,6 @@ module _ (b c n start : ℕ) (ws : List ℕ) (x y : SideView) where
   pub both_found : (v : ℕ) → BothRun (ways b c n start) ws x y → length x.put.part < 7 → v ≡ get_or ws (slot b n (length x.put.sent) + length x.put.part) 0 → BothRun (ways b c n start) ws (side_found x v) y
   both_found v h small is = record {
     few = h.few;
-    wide = h.wide;
     apart = h.apart;
     there = runs_found b n ws x.put y.take y.take.told v h.there small is;
     back = h.back;
@@ -179,7 +175,6 @@ module _ (b c n start : ℕ) (ws : List ℕ) (x y : SideView) where
       let after = known_after_look w h is in
       record {
         few = h.few;
-        wide = h.wide;
         apart = h.apart;
         there = runs_known b n ws x.put y.take y.take.told (known_by n x w) h.there after.1 (rides_rise y.put.sent x.take.got (known_by n x w) y.take.told after.0);
         back = runs_control c n ws y.put x.take x.take.told w h.back is;
@@ -206,7 +201,6 @@ module _ (b c n start : ℕ) (ws : List ℕ) (x y : SideView) where
   pub both_loaded : (v : ℕ) → BothRun (ways b c n start) ws x y → IsDue n x.take → length x.take.part < 6 → v ≡ get_or ws (slot c n (length x.take.got) + length x.take.part) 0 → BothRun (ways b c n start) ws (side_loaded x v) y
   both_loaded v h due small is = record {
     few = h.few;
-    wide = h.wide;
     apart = h.apart;
     there = h.there;
     back = runs_loaded c n ws y.put x.take x.take.told v h.back due small is;
@@ -221,7 +215,6 @@ module _ (b c n start : ℕ) (ws : List ℕ) (x y : SideView) where
   pub both_peeked : (v : ℕ) → BothRun (ways b c n start) ws x y → IsDue n x.take → length x.take.part ≡ 6 → v ≡ get_or ws (slot c n (length x.take.got) + 6) 0 → BothRun (ways b c n start) ws (side_peeked x v) y
   both_peeked v h due six is = record {
     few = h.few;
-    wide = h.wide;
     apart = h.apart;
     there = h.there;
     back = runs_peeked c n ws y.put x.take x.take.told v h.back due six is;
@@ -239,7 +232,6 @@ module _ (b c n start : ℕ) (ws : List ℕ) (x y : SideView) where
       let next : IsNext y.put.sent x.take.got f = loaded_whole c n ws y.put x.take x.take.told v h.back due six is in
       record {
         few = h.few;
-        wide = h.wide;
         apart = h.apart;
         there = h.there;
         back = runs_got c n ws y.put x.take x.take.told v h.back due six is;

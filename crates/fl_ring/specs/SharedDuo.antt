@@ -62,8 +62,7 @@ ways there back size start = record { there = there; back = back; size = size; s
 -- Side x writes the way there and reads the way back, and side y the other way round.
 pub record BothRun (w : DuoLayout) (words : List ℕ) (x y : SideView) : Type 0 where
   pub few : w.size ≤ 1024
-  pub wide : length words ≡ 16 * w.size
-  pub apart : ((w.there ≡ 0) × (w.back ≡ 8 * w.size)) ⊎ ((w.there ≡ 8 * w.size) × (w.back ≡ 0))
+  pub apart : (w.there + 8 * w.size ≤ w.back) ⊎ (w.back + 8 * w.size ≤ w.there)
   pub there : WayRuns w.there w.size words x.put y.take y.take.told
   pub back : WayRuns w.back w.size words y.put x.take x.take.told
   -- what x has told rides in its fragments that y has not got, and the other way round
