@@ -91,10 +91,10 @@ long_text text h = grind (arith, nat_tests, h)
 -- ---- What the reader has given.
 
 -- a script and one read more
-both_few : (text more : List ℕ) → length text ≤ 1048576 → length more ≤ 4096 → length (text ++ more) ≤ 1052672
+both_few : (text more : List ℕ) → length text ≤ 1048576 → length more ≤ 16384 → length (text ++ more) ≤ 1064960
 both_few text more few chunk = omega (arith, length-append text more, few, chunk)
 
-pub gives_more : (u v w : Option (List ℕ)) (text more : List ℕ) → Consumes u v text → length text ≤ 1048576 → Consumes v w more → length more ≤ 4096
+pub gives_more : (u v w : Option (List ℕ)) (text more : List ℕ) → Consumes u v text → length text ≤ 1048576 → Consumes v w more → length more ≤ 16384
     → GivesSome u w
 gives_more u v w text more x few y chunk = (text ++ more, (consumes_then u v w text more x y, both_few text more few chunk))
 

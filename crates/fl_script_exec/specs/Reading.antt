@@ -28,7 +28,7 @@ CanBeUnread Write input = ⊥
 
 -- these, its first: what it has left stands behind them. They are at most as many as a script may have, and one read more
 abbrev pub Gives : Option (List ℕ) → List ℕ → Option (List ℕ) → Type 0
-Gives before text after = Consumes before after text × (length text ≤ 1052672)
+Gives before text after = Consumes before after text × (length text ≤ 1064960)
 
 -- some of them
 abbrev pub GivesSome : Option (List ℕ) → Option (List ℕ) → Type 0

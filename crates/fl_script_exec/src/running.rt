@@ -66,7 +66,7 @@ fn read_script<R: ScriptReader>(alloc: Global, reader: &mut R) -> Result<Vec<u8>
     ensures reads { CountsUpTo 1048577 (R.reads reader.old) (R.reads reader.new) }
 {
     let mut text = Vec::new(alloc);
-    let mut chunk = [0; 4096];
+    let mut chunk = [0; 16_384];
     for _turn in 0..1_048_577_usize {
         let Ok(n) = reader.read(&mut chunk) else {
             return Err(ExecFault::Read);
@@ -133,7 +133,7 @@ fn run<M: Machine, W: Write>(
 
 /// Reads a script and writes its transcript.
 ///
-/// Reads to the end first, or until a script is too long (at most 1,048,577 reads, and no more than 4,096
+/// Reads to the end first, or until a script is too long (at most 1,048,577 reads, and no more than 16,384
 /// bytes behind the longest script), then writes line by line with as many writes as it takes; a write that
 /// takes no byte is a fault.
 ///

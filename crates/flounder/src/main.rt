@@ -15,6 +15,9 @@ use std::env;
 use std::io::{BufWriter, IsTerminal};
 use std::process::ExitCode;
 
+// Bytes of output that are gathered before they are written: a transcript of a script of 1 MiB takes some 20 writes.
+const OUTPUT_ROOM: usize = 65_536;
+
 fn main(rt: HostRuntime) -> ExitCode {
     let alloc = rt.alloc();
     let mut errors = rt.stderr();
@@ -25,7 +28,8 @@ fn main(rt: HostRuntime) -> ExitCode {
     let Ok(words) = args.collect::<Vec<String>>(alloc) else {
         return ExitCode::from(finish(Err(Fault::Memory), &mut errors));
     };
-    let Ok(mut output) = BufWriter::new(alloc, Watched::new(alloc, rt.stdout())) else {
+    let watched = Watched::new(alloc, rt.stdout());
+    let Ok(mut output) = BufWriter::with_capacity(alloc, OUTPUT_ROOM, watched) else {
         return ExitCode::from(finish(Err(Fault::Memory), &mut errors));
     };
     let reader = rt.reader();
