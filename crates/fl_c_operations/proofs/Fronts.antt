@@ -1,9 +1,9 @@
 -- An end with a fragment in front of what it sends.
-use Rattle.std.proofs.Common.{◌≡◌, ℕ, ◌+◌, ◌<◌, ◌≤◌, ◌&&◌, Bool, true, false, List, [], ◌∷◌, ◌++◌, length, Option, Some, None, Result, Ok, Err, refl, sym, ap, subst, ◌∙◌, arith, length-append}
+use Rattle.std.proofs.Common.{◌≡◌, ℕ, ◌+◌, ◌<◌, ◌≤◌, ◌==◌, ◌&&◌, Bool, true, false, List, [], ◌∷◌, ◌++◌, length, Option, Some, None, Result, Ok, Err, refl, sym, ap, subst, ◌∙◌, arith, length-append}
 use Rattle.std.specs.Prelude.{IsSome, IsSomeAnd, slice_get}
 use Rattle.std.specs.Option.{option_map}
 use Rattle.std.specs.Cmp.{second_so}
-use Rattle.std.proofs.lemmas.Bool.{eqb-true}
+use Rattle.std.proofs.lemmas.Bool.{eqb-true, ne_eqb}
 use Rattle.fl_base.specs.declared.fragment.Frag.{Frag}
 use Rattle.fl_value_data.specs.Value.{TheCall, call_of}
 use Rattle.fl_value_data.specs.Fits.{fits_of}
@@ -16,13 +16,13 @@ use Rattle.fl_endpoint.specs.declared.answer.ReceiveAnswer.TheVariants.{Handle, 
 use Rattle.fl_endpoint.specs.declared.fault.EndFault.{EndFault}
 use Rattle.fl_endpoint.specs.declared.fault.EndFault.TheVariants.{Spent, Busy, UnknownMessage, Misfit, NotBound, Failed, Wire, Memory}
 use Rattle.fl_endpoint.specs.View.{TheOutgoing, TheEnd, number_or_0, interface_in, plan_in, frags_from, has_rules, rule_at, reply_to, holds_back, are_some, begun, goes_on, queued_behind, queued, queued_if, with_handled, with_parts}
-use Rattle.fl_endpoint.specs.Events.{IsReady, AreCall, Calls, Receives, SetsRule}
+use Rattle.fl_endpoint.specs.Events.{IsReady, IsOpen, AreCall, Calls, Receives, SetsRule}
 use Rattle.fl_endpoint.specs.Lent.{IsOf, IsPlaceOf, receipt, ReceivesAt}
 use Rattle.fl_endpoint.specs.Accounts.{Sound}
 use Rattle.fl_endpoint.specs.Stored.{IsOwn}
 use Rattle.fl_c_operations.proofs.Sent.{some_frags, idle_end, has_room}
 use Rattle.fl_c_operations.specs.Shorts.{IsShort}
-use Rattle.fl_c_operations.specs.Fronts.{all_behind, all_of, with_outgoing, behind_frag, behind, IsFront, IsFrontOf, holds_all, IsShortFrom}
+use Rattle.fl_c_operations.specs.Fronts.{all_behind, all_of, with_outgoing, behind_frag, behind, IsFront, IsFrontOf, holds_all, IsShortFrom, IsShortAt}
 
 -- ---- what is to be sent
 
@@ -303,3 +303,23 @@ front_at p f s e h = subst (λ (q : Option Frag). IsFrontOf q s) (sym e) h
 
 pub no_front : (p : Option Frag) (s : TheEnd) → p ≡ None → IsFrontOf p s
 no_front p s e = subst (λ (q : Option Frag). IsFrontOf q s) (sym e) tt
+
+-- ---- an end that takes fragments
+
+-- a short call that may be taken by an end may be taken behind a fragment
+pub taken_behind : (p : Option Frag) (s : TheEnd) (msg : ℕ) (tape : List ℕ) (f : Frag) → IsShortAt s msg tape f → IsShortAt (behind p s) msg tape f
+taken_behind None s msg tape f h = h
+taken_behind (Some g) s msg tape f h = record { short = h.short; rule = h.rule; words = h.words }
+
+more_than : (us : List Frag) (ws : List (List Frag)) → length (all_behind us ws) ≤ length ws + 1
+more_than [] ws = omega arith
+more_than (u ∷ us) ws = omega arith
+
+few_open : (b : Bool) (n : ℕ) → n < 16 → (b && (n == 16)) ≡ false
+few_open false n h = refl
+few_open true n h = ne_eqb n 16 (λ e. omega (arith, h, e))
+
+pub opens : (p : Option Frag) (s : TheEnd) → IsReady s → length s.outgoing.waiting < 15 → IsOpen (behind p s)
+opens None s ready few = (ready, few_open (has_rules s.rules) (length s.outgoing.waiting) (omega (arith, few)))
+opens (Some f) s ready few =
+    (ready, few_open (has_rules s.rules) (length (all_of s.outgoing)) (omega (arith, few, more_than s.outgoing.unwritten s.outgoing.waiting)))

@@ -3,8 +3,10 @@ mod Fronts
 mod Gives
 mod HandleSends
 mod HeldSends
+mod Looking
 mod Messages
 mod Refused
+mod Receives
 mod RunSends
 mod Sent
 mod Shorts

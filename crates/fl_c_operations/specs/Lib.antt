@@ -5,6 +5,8 @@ pub mod Calls
 pub mod Shorts
 pub mod After
 pub mod Fronts
+pub mod Seen
+pub mod Glances
 pub mod Ends
 pub mod Runs
 pub mod Making

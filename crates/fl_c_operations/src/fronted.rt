@@ -1,17 +1,18 @@
 //! An end with the only fragment of a call in front of what it sends: such a call needs no values, and no memory.
 
-ghost use Rattle.std.specs.Prelude.{◌≡◌, ◌∷◌, [], true, length, Err, IsSome, IfSome, IfNone};
+ghost use Rattle.std.specs.Prelude.{◌≡◌, ◌≢◌, ◌∷◌, [], true, take, length, Err, IsSome, IfSome, IfNone};
 ghost use Rattle.fl_base.specs.declared.fragment.Frag.{Frag};
+ghost use Rattle.fl_base.specs.Control.{bare};
 ghost use Rattle.fl_ring.specs.SharedSides.{SharedPuts};
 ghost use Rattle.fl_value_data.specs.Value.{TheCall, call_of};
 ghost use Rattle.fl_value_data.specs.Fits.{fits_of};
 ghost use Rattle.fl_endpoint.specs.View.{interface_in, frags_from, is_busy};
-ghost use Rattle.fl_endpoint.specs.Events.{IsReady, Calls, Writes, SetsRule};
+ghost use Rattle.fl_endpoint.specs.Events.{IsReady, IsOpen, Calls, Writes, SetsRule};
 ghost use Rattle.fl_endpoint.specs.Lent.{IsPlaceOf, receipt, ReceivesAt};
 ghost use Rattle.fl_endpoint.specs.Stored.{IsOwn};
-ghost use Rattle.fl_c_operations.specs.Fronts.{all_of, behind_frag, IsFront, holds_all, IsShortFrom};
+ghost use Rattle.fl_c_operations.specs.Fronts.{all_of, behind_frag, IsFront, holds_all, IsShortFrom, IsShortAt};
 
-use crate::short::short_frag;
+use crate::short::{ShortCall, short_call, short_frag};
 use fl_base::{Frag, MsgNo};
 use fl_compile::Program;
 use fl_endpoint::{End, EndFault, ReceiveAnswer, WriteAnswer};
@@ -47,6 +48,7 @@ impl Model for FrontedEnd {
 #[inline]
 fn refused(end: &End) -> Option<EndFault>
     ensures some { IfSome result (λ fault. (c : TheCall) → fits_of (interface_in end.now) c ≡ true → Calls end.now c (Err fault) end.now) }
+    ensures not_memory { IfSome result (λ fault. fault ≢ EndFault.Memory) }
     ensures none { IfNone result (IsReady end.now × (end.now.outgoing.unwritten ≡ [])) }
 {
     if !end.is_bound() {
@@ -77,7 +79,9 @@ fn without_memory(end: &End) -> EndFault
 #[inline(never)]
 fn refused_behind(end: &End) -> EndFault
     requires bound { IsSome end.now.circuit }
-    ensures refuses { (f : Frag) (c : TheCall) → fits_of (interface_in end.now) c ≡ true → Calls (behind_frag f end.now) c (Err result) (behind_frag f end.now) }
+    ensures refuses { (f : Frag) (c : TheCall) → fits_of (interface_in end.now) c ≡ true
+        → Calls (behind_frag f end.now) c (Err result) (behind_frag f end.now) }
+    ensures not_memory { result ≢ EndFault.Memory }
 {
     if end.is_failed() {
         return EndFault::Failed;
@@ -199,11 +203,13 @@ impl FrontedEnd {
         Some(frag)
     }
 
-    // Makes a call of one fragment, which this is.
+    // Makes a call of one fragment, which this is. It is never out of memory.
     #[inline(always)]
     pub(crate) fn call_frag(&mut self, frag: Frag) -> Result<(), EndFault>
         requires own { IsOwn frag }
-        ensures calls { (c : TheCall) → fits_of (interface_in self.old) c ≡ true → frags_from self.old c ≡ frag ∷ [] → Calls self.old c result self.new }
+        ensures calls { (c : TheCall) → fits_of (interface_in self.old) c ≡ true → frags_from self.old c ≡ frag ∷ []
+            → Calls self.old c result self.new }
+        ensures not_memory { result ≢ Err EndFault.Memory }
         ensures program { self.new.program ≡ self.old.program }
     {
         match &self.front {
@@ -272,6 +278,37 @@ impl FrontedEnd {
         match &self.front {
             Some(frag) => receive_behind(frag, &mut self.end, from, calls, place),
             None => self.end.receive(from, calls, place),
+        }
+    }
+
+    // Whether the end takes a fragment. It doesn't say so where 16 calls may wait.
+    #[inline(always)]
+    pub(crate) fn may_take(&self) -> bool
+        ensures opened { result ≡ true → IsOpen self.now }
+    {
+        if !self.end.is_bound() {
+            return false;
+        }
+        if self.end.is_failed() {
+            return false;
+        }
+        self.end.replies_waiting() < 15
+    }
+
+    // The call whose only fragment this is, whatever its epoch and the count that it tells, if there is no reply to it by rule.
+    #[inline(always)]
+    pub(crate) fn short_call(&self, frag: &Frag) -> Option<ShortCall>
+        ensures short { IfSome result (λ call. IsShortAt self.now call.msg.0 (take call.count call.tape) (bare frag.now)) }
+    {
+        let Some(call) = short_call(self.end.program(), frag) else {
+            return None;
+        };
+        match self.end.rule_for(call.msg) {
+            Some(_) => None,
+            None => {
+                self.end.law_sound();
+                Some(call)
+            }
         }
     }
 

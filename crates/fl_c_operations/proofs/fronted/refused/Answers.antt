@@ -16,6 +16,15 @@ returns-then-is_busy-clause-some c = λ call fits. (
   refl,
 )
 
+pub returns-then-not-is_bound-clause-not_memory : goal.returns-then-not-is_bound-clause-not_memory
+returns-then-not-is_bound-clause-not_memory c = λ e. absurd (cc)
+
+pub returns-then-is_failed-clause-not_memory : goal.returns-then-is_failed-clause-not_memory
+returns-then-is_failed-clause-not_memory c = λ e. absurd (cc)
+
+pub returns-then-is_busy-clause-not_memory : goal.returns-then-is_busy-clause-not_memory
+returns-then-is_busy-clause-not_memory c = λ e. absurd (cc)
+
 pub returns-clause-none : goal.returns-clause-none
 returns-clause-none c = (
   (bound c.args.end.now.circuit c.if-not-is_bound.ensures.bound, sym c.if-is_failed.ensures.failed),

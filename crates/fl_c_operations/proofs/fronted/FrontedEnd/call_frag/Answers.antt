@@ -18,14 +18,14 @@ returns-in-Some c =
     let same = some_is h.front c.in-Some.field-0 h.end c.in-Some.is ∙ c.self.view_is in
     let refuses = subst (λ (s : TheEnd). (call : TheCall) → fits_of (interface_in s) call ≡ true → Calls s call (Err c.refused_behind.result) s) same
     (c.refused_behind.ensures.refuses c.in-Some.field-0) in
-    record { calls = λ call fits frags. refuses call fits; program = refl }
+    record { calls = λ call fits frags. refuses call fits; not_memory = λ e. c.refused_behind.ensures.not_memory (cc); program = refl }
 
 pub returns-in-Some-refused : goal.returns-in-Some-refused
 returns-in-Some-refused c =
     let h = c.self.inside in
     let same = none_is h.front h.end c.in-None.is ∙ c.self.view_is in
     let refuses = subst (λ (s : TheEnd). (call : TheCall) → fits_of (interface_in s) call ≡ true → Calls s call (Err c.in-Some-refused.fault) s) same c.in-Some-refused.ensures.some in
-    record { calls = λ call fits frags. refuses call fits; program = refl }
+    record { calls = λ call fits frags. refuses call fits; not_memory = λ e. c.in-Some-refused.ensures.not_memory (cc); program = refl }
 
 pub invariant_of-self : goal.invariant_of-self
 invariant_of-self c =
@@ -38,5 +38,6 @@ returns-in-None-refused c =
     record {
       calls = subst (λ (s : TheEnd). (call : TheCall) → fits_of (interface_in s) call ≡ true → frags_from s call ≡ c.args.frag ∷ [] → Calls s call (Ok tt) (behind_frag c.args.frag h.end)) same
           (λ call fits frags. calls_front h.end c.args.frag call c.in-None-refused.ensures.none.0 c.in-None-refused.ensures.none.1 fits frags);
+      not_memory = λ e. absurd (cc);
       program = ap (λ (s : TheEnd). s.program) same;
     }
