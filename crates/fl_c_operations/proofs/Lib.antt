@@ -1,5 +1,5 @@
 mod After
-mod Fronts
+mod Transmissions
 mod Gives
 mod HandleSends
 mod HeldSends

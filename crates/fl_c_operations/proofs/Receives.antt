@@ -28,7 +28,7 @@ use Rattle.fl_c_operations.specs.declared.answer.UseFault.TheVariants.{NoSuchOpe
 use Rattle.fl_c_operations.specs.declared.answer.Outcome.TheVariants.{Handled}
 use Rattle.fl_c_operations.specs.Calls.{PutsCall, numbers_of_call, PutsNumbers}
 use Rattle.fl_c_operations.specs.declared.kept.KeptCall.{KeptCall}
-use Rattle.fl_c_operations.specs.Fronts.{IsShortAt}
+use Rattle.fl_c_operations.specs.Transmissions.{IsShortAt}
 use Rattle.fl_c_operations.specs.View.{TheHeld, program_of_held, handled_by, IsBetween}
 use Rattle.fl_c_operations.specs.Ends.{received_as, kept_in, ReceivesNext}
 
@@ -105,10 +105,10 @@ pub short_next : OneReading → (h t : TheHeld) (f : Frag) (m : TheSide) (msg : 
 short_next law h t f m msg tape place between opened is sees gets at e calls handled =
     let (r, there, of) = standing h.end (slice_get h.calls 0) place in
     let none = between r there in
-    let (c, short) = at.short in
+    let (c, has, only) = at.short in
     let s = with_parts h.end r.parts in
-    let no_rule : rule_at h.end.rules c.msg ≡ None = subst (λ (n : ℕ). rule_at h.end.rules n ≡ None) (sym short.has.message) at.rule in
-    let are : AreCall s (r.parts ++ f ∷ []) c = are_call s f c law at.words of.are_bare is short.has.fits (only_means (program_of_held h) r.parts f c none is short.frags) in
+    let no_rule : rule_at h.end.rules c.msg ≡ None = subst (λ (n : ℕ). rule_at h.end.rules n ≡ None) (sym has.message) at.rule in
+    let are : AreCall s (r.parts ++ f ∷ []) c = are_call s f c law at.words of.are_bare is has.fits (only_means (program_of_held h) r.parts f c none is only.frags) in
     let after : with_parts t.end r.parts ≡ with_handled s c
     = ap (λ (x : TheEnd). with_parts x r.parts) e ∙ ap (λ (ps : List Frag). with_parts h.end ps) none ∙ no_reply s c no_rule in (
       c,
@@ -123,7 +123,7 @@ short_next law h t f m msg tape place between opened is sees gets at e calls han
         };
         after_is = calls ∙ sym (set_same h.calls 0 r there);
       },
-      handled ∙ ap (λ (l : List ℕ). Some l) (ap (λ (n : ℕ). n ∷ tape) (sym short.has.message) ∙ ap (λ (l : List ℕ). c.msg ∷ l) short.has.whole),
+      handled ∙ ap (λ (l : List ℕ). Some l) (ap (λ (n : ℕ). n ∷ tape) (sym has.message) ∙ ap (λ (l : List ℕ). c.msg ∷ l) has.whole),
     )
 
 -- ---- a room

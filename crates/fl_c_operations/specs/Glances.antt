@@ -6,7 +6,7 @@ use Rattle.fl_link.specs.Looks.{saw, saw_ack, found, found_ack, missed}
 use Rattle.fl_ring.specs.SharedSides.{TheSide, SharedTakes}
 use Rattle.fl_endpoint.specs.View.{TheEnd}
 use Rattle.fl_endpoint.specs.Events.{IsOpen}
-use Rattle.fl_c_operations.specs.Fronts.{IsShortAt}
+use Rattle.fl_c_operations.specs.Transmissions.{IsShortAt}
 use Rattle.fl_c_operations.specs.Seen.{IsLent}
 use Rattle.fl_c_operations.specs.declared.glance.Glance.{Glance}
 use Rattle.fl_c_operations.specs.declared.glance.Glance.TheVariants.{Nothing, Acknowledgement, Short, Untaken}

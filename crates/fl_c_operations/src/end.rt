@@ -8,12 +8,12 @@ ghost use Rattle.fl_c_operations.specs.Ends.{CallsBy, WritesBy, ReceivesNext, Re
 
 use crate::answer::{Outcome, UseFault};
 use crate::calls::read_numbers;
-use crate::fronted::FrontedEnd;
 use crate::glance::{Glance, receive_lent, take_glance};
 use crate::kept::{KeptCall, put_kept};
 use crate::looked::LookedSide;
 use crate::operation::Operation;
 use crate::side::tell;
+use crate::transmitting::TransmittingEnd;
 use fl_base::{Circuit, MsgNo};
 use fl_compile::Program;
 use fl_endpoint::{End, EndFault, ReceiveAnswer, WriteAnswer};
@@ -27,7 +27,7 @@ use std::marker::Model;
 #[derive(Drop)]
 pub struct HeldEnd {
     alloc: Global,
-    end: FrontedEnd,
+    end: TransmittingEnd,
     side: LookedSide,
     calls: Reassemblies,
     handled: Option<KeptCall>,
@@ -91,10 +91,10 @@ impl HeldEnd {
         let end = End::new(alloc, program, Circuit(0))?;
         let mut calls = Reassemblies::new(alloc);
         end.add_place(&mut calls)?;
-        let fronted = FrontedEnd::new(end);
+        let transmitting = TransmittingEnd::new(end);
         Ok(HeldEnd {
             alloc,
-            end: fronted,
+            end: transmitting,
             side: LookedSide::new(side),
             calls,
             handled: None,

@@ -5,9 +5,9 @@ ghost use Rattle.fl_endpoint.specs.Lent.{IsPlaceOf, receipt, ReceivesAt};
 ghost use Rattle.fl_c_operations.specs.Seen.{IsLent};
 ghost use Rattle.fl_c_operations.specs.Glances.{Glances};
 
-use crate::fronted::FrontedEnd;
 use crate::looked::LookedSide;
 use crate::short::ShortCall;
+use crate::transmitting::TransmittingEnd;
 use fl_endpoint::{EndFault, ReceiveAnswer};
 use fl_link::Sight;
 use fl_machine::Reassemblies;
@@ -27,7 +27,7 @@ pub(crate) enum Glance {
 
 /// Looks at what stands first where no call is under way, and takes what only acknowledges and what is a short call.
 #[inline(always)]
-pub(crate) fn take_glance(end: &FrontedEnd, side: &mut LookedSide, between: bool) -> Glance
+pub(crate) fn take_glance(end: &TransmittingEnd, side: &mut LookedSide, between: bool) -> Glance
     ensures glances { Glances end.now between side.old.side result side.new.seen side.new.side }
 {
     side.forget();
@@ -57,7 +57,7 @@ pub(crate) fn take_glance(end: &FrontedEnd, side: &mut LookedSide, between: bool
 /// Takes what stands first, by a side that may have seen it.
 #[inline(never)]
 pub(crate) fn receive_lent(
-    end: &mut FrontedEnd,
+    end: &mut TransmittingEnd,
     side: &mut LookedSide,
     calls: &mut Reassemblies,
 ) -> Result<ReceiveAnswer, EndFault>

@@ -8,7 +8,7 @@ ghost use Rattle.fl_machine.specs.contracts.send.SendRun as SendRunRows;
 ghost use Rattle.fl_machine.specs.contracts.recv.RecvRun as RecvRunRows;
 ghost use Rattle.fl_endpoint.specs.contracts.end.End as EndRows;
 ghost use Rattle.fl_ring.specs.contracts.shared.duo_sides.SharedSide as SharedSideRows;
-ghost use Rattle.fl_c_operations.specs.contracts.fronted.FrontedEnd as FrontedRows;
+ghost use Rattle.fl_c_operations.specs.contracts.transmitting.TransmittingEnd as TransmittingRows;
 ghost use Rattle.fl_c_operations.specs.contracts.looked.LookedSide as LookedRows;
 ghost use Rattle.fl_c_operations.specs.contracts.kept.KeptCall as KeptRows;
 ghost use Rattle.fl_c_operations.specs.contracts.end.HeldEnd as HeldRows;
@@ -50,8 +50,8 @@ fn end_sent()
     sends::<End>();
 }
 
-fn fronted_sent()
-    ensures sent { IsSend FrontedRows.the_row }
+fn transmitting_sent()
+    ensures sent { IsSend TransmittingRows.the_row }
 {
     end_sent();
 }
@@ -85,7 +85,7 @@ fn kept_sent()
 fn held_sent()
     ensures sent { IsSend HeldRows.the_row }
 {
-    fronted_sent();
+    transmitting_sent();
     looked_sent();
     calls_sent();
     kept_sent();

@@ -10,7 +10,7 @@ ghost use Rattle.fl_value_data.specs.Taken.{HasTape};
 ghost use Rattle.fl_layout.specs.Places.{count};
 ghost use Rattle.fl_compile.specs.Programs.{program_of};
 ghost use Rattle.fl_c_operations.specs.After.{after_all, after_argument};
-ghost use Rattle.fl_c_operations.specs.Shorts.{IsShortTape, IsShort};
+ghost use Rattle.fl_c_operations.specs.Shorts.{IsFragOfTape, IsFragOfNumbers};
 
 use crate::calls::{first_and_rest, message_at};
 use crate::tapes::{after_scalar, is_tape};
@@ -102,7 +102,7 @@ pub(crate) fn tape_frag(
     tape: &[u64],
 ) -> Option<Frag>
     requires known { msg.0 < length (program_of program.now).interface.messages }
-    ensures short { IfSome result (λ f. (c : TheCall) × IsShortTape (program_of program.now) circuit.0 msg.0 tape.now c f) }
+    ensures short { IfSome result (λ f. IsFragOfTape (program_of program.now) circuit.0 msg.0 tape.now f) }
 {
     // Both have 16 bits, which the proof knows once they are read.
     let (_msg, _circuit) = (msg.0, circuit.0);
@@ -122,7 +122,7 @@ pub(crate) fn tape_frag(
 /// The only fragment, on a circuit, of the call of these numbers: its message's, and its tape. It may find none.
 #[inline(always)]
 pub(crate) fn short_frag(program: &Program, circuit: Circuit, numbers: &[u64]) -> Option<Frag>
-    ensures short { IfSome result (λ f. (c : TheCall) × IsShort (program_of program.now) circuit.0 numbers.now c f) }
+    ensures short { IfSome result (λ f. IsFragOfNumbers (program_of program.now) circuit.0 numbers.now f) }
 {
     let Some((message, tape)) = first_and_rest(numbers) else {
         return None;
@@ -225,7 +225,7 @@ fn are_same(one: &Frag, other: &Frag) -> bool
 /// The call whose only fragment this is, off circuits, whatever its epoch and the count that it tells.
 #[inline(always)]
 pub(crate) fn short_call(program: &Program, frag: &Frag) -> Option<ShortCall>
-    ensures short { IfSome result (λ s. (c : TheCall) × IsShortTape (program_of program.now) 0 s.msg.0 (take s.count s.tape) c (bare frag.now)) }
+    ensures short { IfSome result (λ call. IsFragOfTape (program_of program.now) 0 call.msg.0 (take call.count call.tape) (bare frag.now)) }
 {
     let Some(msg) = message_at(program, u64::from(frag.msg().0)) else {
         return None;

@@ -5,9 +5,9 @@ use Rattle.fl_c_operations.specs.Ends.{CallsBy}
 use Rattle.fl_c_operations.proofs.end.HeldEnd.call.Goals as goal
 
 pub call_frag-requires : goal.call_frag-requires
-call_frag-requires c = record { own = c.in-Some.ensures.short.1.own }
+call_frag-requires c = record { own = c.in-Some.ensures.short.2.own }
 
--- the only fragment of the call is in front
+-- the only fragment of the call is in transmission
 pub returns-in-Some : goal.returns-in-Some
 returns-in-Some c =
     let i = c.self.inside in
@@ -18,5 +18,5 @@ returns-in-Some c =
     let kept = ap (λ (p : Program). handled_by p i.handled) c.call_frag.ensures.program in
     record {
       calls = subst (λ (h : TheHeld). CallsBy h c.args.numbers.now c.called.result after) same
-          (inr (short.0, c.call_frag.result, short.1.call, c.call_frag.ensures.calls short.0 short.1.call.3.fits short.1.frags, c.called.ensures.told, (refl, refl, kept)));
+          (inr (short.0, c.call_frag.result, short.1, c.call_frag.ensures.calls short.0 short.1.3.fits short.2.frags, c.called.ensures.told, (refl, refl, kept)));
     }
