@@ -222,7 +222,7 @@ fn are_same(one: &Frag, other: &Frag) -> bool
     true
 }
 
-/// The call whose only fragment this is, off circuits, whatever its epoch and the count that it tells.
+/// The call whose only fragment this is, off circuits, whatever its epoch and the count that it tells. It may find none.
 #[inline(always)]
 pub(crate) fn short_call(program: &Program, frag: &Frag) -> Option<ShortCall>
     ensures short { IfSome result (λ call. IsFragOfTape (program_of program.now) 0 call.msg.0 (take call.count call.tape) (bare frag.now)) }

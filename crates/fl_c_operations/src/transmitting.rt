@@ -88,7 +88,7 @@ fn refused_transmitting(end: &End) -> EndFault
     EndFault::Busy
 }
 
-// The only fragment of the call of these numbers.
+// The only fragment of the call of these numbers. It may find none.
 #[inline(always)]
 fn short_of(end: &End, numbers: &[u64]) -> Option<Frag>
     ensures short { IfSome result (λ f. IsFragFrom end.now numbers.now f) }
@@ -115,7 +115,7 @@ fn all_calls(end: &End) -> usize
     waiting
 }
 
-// Whether an end takes no fragment while a call of one fragment is in transmission.
+// Whether an end with a call of one fragment in transmission takes no fragment.
 #[inline]
 fn is_held(end: &End) -> bool
     ensures held { result ≡ holds_all end.now }
@@ -194,7 +194,7 @@ impl TransmittingEnd {
         }
     }
 
-    // The only fragment of the call of these numbers.
+    // The only fragment of the call of these numbers. It may find none.
     #[inline(always)]
     pub(crate) fn short_frag(&self, numbers: &[u64]) -> Option<Frag>
         ensures short { IfSome result (λ f. IsFragFrom self.now numbers.now f) }
@@ -297,7 +297,8 @@ impl TransmittingEnd {
         self.end.replies_waiting() < 15
     }
 
-    // The call whose only fragment this is, whatever its epoch and the count that it tells, if there is no reply to it by rule.
+    // The call whose only fragment this is, whatever its epoch and the count that it tells, if there is no reply to it by rule. It may find
+    // none.
     #[inline(always)]
     pub(crate) fn short_call(&self, frag: &Frag) -> Option<ShortCall>
         ensures short { IfSome result (λ call. IsShortAt self.now call.msg.0 (take call.count call.tape) (bare frag.now)) }
