@@ -2,27 +2,38 @@
 use denote.Struct.Declared.{shape}
 use denote.Param.Send.{IsSend, sendable, recorded_send, struct_send, view_send}
 use Rattle.std.proofs.Crossing.{crosses}
-use Rattle.fl_value_data.specs.contracts.value.Call
 use Rattle.fl_machine.specs.contracts.reassemblies.Reassemblies
 use Rattle.fl_endpoint.specs.contracts.end.End
 use Rattle.fl_ring.specs.contracts.shared.duo_sides.SharedSide
 use Rattle.fl_endpoint.specs.View.{TheEnd}
+use Rattle.fl_c_operations.specs.Seen.{TheLooked}
 use Rattle.fl_c_operations.specs.View.{TheHeld}
-use Rattle.fl_c_operations.specs.declared.fronted.FrontedEnd as FrontedCode
-use Rattle.fl_c_operations.specs.contracts.fronted.FrontedEnd as Fronted
-use Rattle.fl_c_operations.specs.contracts.fronted.FrontedEnd.TheInside as FrontedInside
+use Rattle.fl_c_operations.specs.contracts.kept.KeptCall
+use Rattle.fl_c_operations.specs.declared.looked.LookedSide as LookedCode
+use Rattle.fl_c_operations.specs.contracts.looked.LookedSide as Looked
+use Rattle.fl_c_operations.specs.contracts.looked.LookedSide.TheInside as LookedInside
+use Rattle.fl_c_operations.specs.declared.transmitting.TransmittingEnd as TransmittingCode
+use Rattle.fl_c_operations.specs.contracts.transmitting.TransmittingEnd as Transmitting
+use Rattle.fl_c_operations.specs.contracts.transmitting.TransmittingEnd.TheInside as TransmittingInside
 use Rattle.fl_c_operations.specs.declared.end.HeldEnd as HeldCode
 use Rattle.fl_c_operations.specs.contracts.end.HeldEnd as Held
 use Rattle.fl_c_operations.specs.contracts.end.HeldEnd.TheInside as HeldInside
 
-fronted_inside : IsSend End.the_row → IsSend FrontedInside.the_row
-fronted_inside end = recorded_send (FrontedInside.the_field).row _ _ (FrontedInside.the_type).to_one
-    (struct_send (shape FrontedInside.the_type) (end, (search (sendable, crosses) depth 40, tt)))
+transmitting_inside : IsSend End.the_row → IsSend TransmittingInside.the_row
+transmitting_inside end = recorded_send (TransmittingInside.the_field).row _ _ (TransmittingInside.the_type).to_one
+    (struct_send (shape TransmittingInside.the_type) (end, (search (sendable, crosses) depth 40, tt)))
 
-pub fronted_sends : IsSend End.the_row → IsSend Fronted.the_row
-fronted_sends end = view_send FrontedInside.the_row TheEnd FrontedCode.the_code Fronted.the_view Fronted.the_invariant (fronted_inside end)
+pub transmitting_sends : IsSend End.the_row → IsSend Transmitting.the_row
+transmitting_sends end = view_send TransmittingInside.the_row TheEnd TransmittingCode.the_code Transmitting.the_view Transmitting.the_invariant (transmitting_inside end)
 
-held_inside : IsSend Fronted.the_row → IsSend SharedSide.the_row → IsSend Reassemblies.the_row → IsSend Call.the_row → IsSend HeldInside.the_row
+looked_inside : IsSend SharedSide.the_row → IsSend LookedInside.the_row
+looked_inside side = recorded_send (LookedInside.the_field).row _ _ (LookedInside.the_type).to_one
+    (struct_send (shape LookedInside.the_type) (side, (search (sendable, crosses) depth 40, tt)))
+
+pub looked_sends : IsSend SharedSide.the_row → IsSend Looked.the_row
+looked_sends side = view_send LookedInside.the_row TheLooked LookedCode.the_code Looked.the_view Looked.the_invariant (looked_inside side)
+
+held_inside : IsSend Transmitting.the_row → IsSend Looked.the_row → IsSend Reassemblies.the_row → IsSend KeptCall.the_row → IsSend HeldInside.the_row
 held_inside end side calls call = recorded_send (HeldInside.the_field).row _ _ (HeldInside.the_type).to_one
     (struct_send (shape HeldInside.the_type) (
       search (sendable, crosses) depth 20,
@@ -34,12 +45,12 @@ held_inside end side calls call = recorded_send (HeldInside.the_field).row _ _ (
             calls,
             (
               search (sendable, crosses, call) depth 40,
-              (search (sendable, crosses) depth 40, tt),
+              (search (sendable, crosses) depth 20, (search (sendable, crosses) depth 40, tt)),
             ),
           ),
         ),
       ),
     ))
 
-pub held_sends : IsSend Fronted.the_row → IsSend SharedSide.the_row → IsSend Reassemblies.the_row → IsSend Call.the_row → IsSend Held.the_row
+pub held_sends : IsSend Transmitting.the_row → IsSend Looked.the_row → IsSend Reassemblies.the_row → IsSend KeptCall.the_row → IsSend Held.the_row
 held_sends end side calls call = view_send HeldInside.the_row TheHeld HeldCode.the_code Held.the_view Held.the_invariant (held_inside end side calls call)

@@ -1,10 +1,12 @@
 mod After
-mod Fronts
+mod Transmissions
 mod Gives
 mod HandleSends
 mod HeldSends
+mod Looking
 mod Messages
 mod Refused
+mod Receives
 mod RunSends
 mod Sent
 mod Shorts

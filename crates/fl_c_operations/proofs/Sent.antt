@@ -1,23 +1,27 @@
 -- What an end sends, and its place: as the end's own crate has it, which hands these lemmas to none.
-use Rattle.std.proofs.Common.{◌≡◌, ℕ, zero, suc, ◌-◌, ◌/◌, ◌%◌, ◌^◌, ◌<◌, ◌≤◌, ◌==◌, ◌&&◌, Bool, true, false, List, [], ◌∷◌, map, drop, length, Option, Some, None, Result, refl, sym, ap, ◌∙◌, ⊎_elim, arith}
+use Rattle.std.proofs.Common.{◌≡◌, ℕ, zero, suc, ◌-◌, ◌/◌, ◌%◌, ◌^◌, ◌<◌, ◌≤◌, ◌==◌, ◌&&◌, Bool, true, false, List, [], ◌∷◌, ◌++◌, inl, map, drop, length, Option, Some, None, Result, refl, sym, ap, ◌∙◌, ⊎_elim, arith}
 use Rattle.std.specs.Prelude.{slice_get, slice_set, IsSomeAnd}
 use Rattle.std.specs.List.{range_with_len, list_all}
 use Rattle.std.proofs.lemmas.Bool.{false≢true, cases_lt}
-use Rattle.std.proofs.lemmas.List.{length-map, length-drop}
+use Rattle.std.proofs.lemmas.List.{length-map, length-drop, map-append}
+use Rattle.std.proofs.lemmas.List.Elements.{All-nil, All-cons}
 use Rattle.std.proofs.lemmas.List.FromFn.{length-range_with_len}
 use Rattle.fl_base.specs.declared.fragment.Frag.{Frag}
-use Rattle.fl_base.specs.Control.{control_word, body}
+use Rattle.fl_base.specs.Control.{control_word, body, bare}
 use Rattle.fl_interface.specs.Interface.{TheInterface}
 use Rattle.fl_value_data.specs.declared.value.PlanNo.{PlanNo}
 use Rattle.fl_value_data.specs.Value.{TheCall}
+use Rattle.fl_value_data.specs.Fits.{fits_of}
 use Rattle.fl_layout.specs.Places.{count, count_for}
 use Rattle.fl_link.specs.Looks.{Look}
-use Rattle.fl_wire.specs.Payload.{payload_of, frag_on, frags_on}
+use Rattle.fl_wire.specs.Payload.{payload_of, frag_on, frags_on, frags_of}
+use Rattle.fl_wire.specs.Reading.{AllFit, OneReading}
+use Rattle.fl_wire.specs.Words.{interface_words_fit}
 use Rattle.fl_machine.specs.Reassembling.{TheReassembly}
 use Rattle.fl_endpoint.specs.declared.answer.ReceiveAnswer.{ReceiveAnswer}
 use Rattle.fl_endpoint.specs.declared.fault.EndFault.{EndFault}
 use Rattle.fl_endpoint.specs.View.{TheEnd, TheOutgoing, number_or_0, interface_in, plan_in, frags_from, nothing_to_send, has_rules, rule_at, holds_back, with_parts}
-use Rattle.fl_endpoint.specs.Events.{Receives}
+use Rattle.fl_endpoint.specs.Events.{AreCall, Receives}
 use Rattle.fl_endpoint.specs.Lent.{IsOf, IsPlaceOf, receipt, ReceivesAt}
 use Rattle.fl_endpoint.specs.Accounts.{IsLeft, Sound}
 use Rattle.fl_endpoint.specs.Stored.{payload_frags, IsOwn, AreOwn}
@@ -121,3 +125,25 @@ pub receives_kept : {T : Type 0} (takes : T → Look → T → Type 0) (s : TheE
 receives_kept takes s p q answer calls place known h =
     let (r, there, of) = standing s (slice_get calls place) known in
     record { was = r; was_there = there; is = r; event = record { of = of; program = refl; receives = h r.parts }; after_is = sym (set_same calls place r there) }
+
+-- ---- a call that is whole
+
+-- fragments that mean a call mean no other
+pub are_call : (s : TheEnd) (f : Frag) (c : TheCall) → OneReading → interface_words_fit (interface_in s) ≡ true → map bare s.parts ≡ s.parts → bare f ≡ f → fits_of (interface_in s) c ≡ true
+    → map bare (s.parts ++ f ∷ []) ≡ frags_of (plan_in s) (interface_in s) c → AreCall s (s.parts ++ f ∷ []) c
+are_call s f c law words are_bare is fits means =
+    let bare_more = map-append bare s.parts (f ∷ []) ∙ ap (λ (xs : List Frag). xs ++ bare f ∷ []) are_bare ∙ ap (λ (x : Frag). s.parts ++ x ∷ []) is in
+    let mean : s.parts ++ f ∷ [] ≡ frags_of (plan_in s) (interface_in s) c = sym bare_more ∙ means in
+    let one : (d : TheCall) → fits_of (interface_in s) d ≡ true → AllFit (interface_in s) (d ∷ [])
+    = λ d h. All-cons (λ (x : TheCall). fits_of (interface_in s) x ≡ true) d [] h (All-nil (λ (x : TheCall). fits_of (interface_in s) x ≡ true)) in
+    record {
+      fits = fits;
+      mean = mean;
+      only = λ d fit e.
+          let same = law (plan_in s) (interface_in s) (d ∷ []) (c ∷ []) [] [] words (one d fit) (one c fits) (inl refl) (inl refl)
+          (ap (λ (xs : List Frag). (xs ++ []) ++ []) (sym e ∙ mean)) in
+          first_same d c same.0;
+    }
+  where
+    first_same : (d c : TheCall) → ◌≡◌ {A = List TheCall} (d ∷ []) (c ∷ []) → d ≡ c
+    first_same d c e = cc

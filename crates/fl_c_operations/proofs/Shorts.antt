@@ -24,7 +24,7 @@ use Rattle.fl_machine.specs.Sending.{frags_holding}
 use Rattle.fl_machine.specs.Laws.{SendsFragments}
 use Rattle.fl_endpoint.specs.Stored.{AreOwn}
 use Rattle.fl_c_operations.specs.After.{after_all, after_argument}
-use Rattle.fl_c_operations.specs.Shorts.{IsShortTape, IsShort}
+use Rattle.fl_c_operations.specs.Shorts.{IsFragOfTape, IsFragOfNumbers}
 use Rattle.fl_c_operations.proofs.Sent.{own_frags, only_one, length_frags}
 use Rattle.fl_c_operations.proofs.Starts.{message_of_call, code_is}
 use Rattle.fl_c_operations.proofs.Taped.{all_found}
@@ -66,7 +66,7 @@ frags_are sends x circuit msg c code tape within words has some =
 pub short_of : SendsFragments → (x : TheProgram) (plan : PlanNo) (i : TheInterface) (circuit msg : ℕ) (code : TheCode) (tape : List ℕ) (f : Frag) → i ≡ x.interface → plan ≡ x.plan
     → is_within_limits i ≡ true → interface_words_fit i ≡ true → msg < 2 ^ 16 → circuit < 2 ^ 16 → (c : TheCall) × HasTape plan i msg tape c
     → ((c : TheCall) → fits_of x.interface c ≡ true → c.msg ≡ msg → count x.plan x.interface c ≡ 1) → Some code ≡ code_in Send x msg
-    → Some f ≡ slice_get (frags_holding true msg circuit (bytes_given (block_of code.ops) tape)) 0 → (c : TheCall) × IsShortTape x circuit msg tape c f
+    → Some f ≡ slice_get (frags_holding true msg circuit (bytes_given (block_of code.ops) tape)) 0 → IsFragOfTape x circuit msg tape f
 short_of sends x plan i circuit msg code tape f e p within words small few (c, there) one some first =
     let has : HasTape x.plan x.interface msg tape c
     = subst (λ (j : TheInterface). HasTape x.plan j msg tape c) e (subst (λ (q : PlanNo). HasTape q i msg tape c) p there) in
@@ -77,10 +77,9 @@ short_of sends x plan i circuit msg code tape f e p within words small few (c, t
     let only : f ∷ [] ≡ frags_on circuit x.plan x.interface c
     = only_one (frags_on circuit x.plan x.interface c) f (first ∙ ap (λ (fs : List Frag). slice_get fs 0) are) long in
     let owns : AreOwn (f ∷ []) = subst (λ (fs : List Frag). AreOwn fs) (are ∙ sym only) (own_frags msg circuit bytes small few) in
-    (c, record { has = has; frags = sym only; own = owns.0 })
+    (c, has, record { frags = sym only; own = owns.0 })
 
 -- the same of all numbers
-pub short_numbers : (x : TheProgram) (circuit msg number : ℕ) (tape numbers : List ℕ) (f : Frag) → msg ≡ number → numbers ≡ number ∷ tape → (c : TheCall) × IsShortTape x circuit msg tape c f
-    → (c : TheCall) × IsShort x circuit numbers c f
-short_numbers x circuit msg number tape numbers f e is (c, short) =
-    (c, record { call = (msg, tape, is ∙ ap (λ (n : ℕ). n ∷ tape) (sym e), short.has); frags = short.frags; own = short.own })
+pub short_numbers : (x : TheProgram) (circuit msg number : ℕ) (tape numbers : List ℕ) (f : Frag) → msg ≡ number → numbers ≡ number ∷ tape → IsFragOfTape x circuit msg tape f
+    → IsFragOfNumbers x circuit numbers f
+short_numbers x circuit msg number tape numbers f e is (c, has, only) = (c, (msg, tape, is ∙ ap (λ (n : ℕ). n ∷ tape) (sym e), has), only)

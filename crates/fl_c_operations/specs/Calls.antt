@@ -45,3 +45,14 @@ PutsCall x call room (Err (ShortRoom wanted)) written =
     (wanted ≡ length (tape_of x.plan x.interface (call_of call)) + 1) × (length room < wanted) × (written ≡ room)
 PutsCall x call room (Err (End Memory)) written = written ≡ room
 PutsCall x call room (Err fault) written = ⊥
+
+-- the numbers of a call: its message's, and its tape
+abbrev pub numbers_of_call : TheProgram → TheCall → List ℕ
+numbers_of_call x c = c.msg ∷ tape_of x.plan x.interface c
+
+-- these numbers stand first in a room, or there is no room for them; or memory ran out, whatever the room
+abbrev pub PutsNumbers : List ℕ → List ℕ → Result ℕ UseFault → List ℕ → Type 0
+PutsNumbers numbers room (Ok count) written = (count ≡ length numbers) × (written ≡ numbers ++ drop count room)
+PutsNumbers numbers room (Err (ShortRoom wanted)) written = (wanted ≡ length numbers) × (length room < wanted) × (written ≡ room)
+PutsNumbers numbers room (Err (End Memory)) written = written ≡ room
+PutsNumbers numbers room (Err fault) written = ⊥

@@ -1,16 +1,19 @@
 -- What each operation does at an end, exactly: by cases on what it came to. The end goes from h to t.
-use Rattle.std.specs.Prelude.{◌≡◌, ◌≢◌, ℕ, ◌-◌, ◌≤◌, ◌⊎◌, true, false, List, [], ◌∷◌, length, Option, Some, None, IsSome, Result, Ok, Err}
-use Rattle.fl_ring.specs.SharedSides.{SharedPuts, SharedTakes}
-use Rattle.fl_value_data.specs.declared.value.Call.{Call}
+use Rattle.std.specs.Prelude.{◌≡◌, ◌≢◌, ℕ, ◌-◌, ◌≤◌, ◌⊎◌, true, false, List, [], ◌∷◌, ◌++◌, length, Option, Some, None, IsSome, Result, Ok, Err}
+use Rattle.fl_base.specs.declared.fragment.Frag.{Frag}
+use Rattle.fl_base.specs.Control.{bare}
+use Rattle.fl_link.specs.Looks.{saw, found}
+use Rattle.fl_ring.specs.SharedSides.{TheSide, SharedPuts, SharedTakes}
+use Rattle.fl_machine.specs.Reassembling.{TheReassembly, ChangesPlace}
 use Rattle.fl_value_data.specs.Value.{TheCall}
 use Rattle.fl_endpoint.specs.declared.fault.EndFault.{EndFault}
 use Rattle.fl_endpoint.specs.declared.fault.EndFault.TheVariants.{UnknownMessage, Misfit}
 use Rattle.fl_endpoint.specs.declared.answer.WriteAnswer.TheVariants.{Written, Full, Nothing}
 use Rattle.fl_endpoint.specs.declared.answer.ReceiveAnswer.{ReceiveAnswer}
 use Rattle.fl_endpoint.specs.declared.answer.ReceiveAnswer.TheVariants.{Handle, Part, Quiet, Empty, HeldBack}
-use Rattle.fl_endpoint.specs.View.{is_busy}
-use Rattle.fl_endpoint.specs.Events.{Calls, Writes, SetsRule}
-use Rattle.fl_endpoint.specs.Lent.{receipt, ReceivesAt}
+use Rattle.fl_endpoint.specs.View.{TheEnd, is_busy, with_parts, with_handled}
+use Rattle.fl_endpoint.specs.Events.{IsOpen, AreCall as AreFrags, Calls, Writes, SetsRule}
+use Rattle.fl_endpoint.specs.Lent.{IsOf, receipt, ReceivesAt}
 use Rattle.fl_c_operations.specs.declared.operation.Operation.{Operation}
 use Rattle.fl_c_operations.specs.declared.operation.Operation.TheVariants.{Tell, Call as ToCall, Write, Receive, Read, Rule, Busy as AskBusy}
 use Rattle.fl_c_operations.specs.declared.answer.Outcome.{Outcome}
@@ -19,7 +22,9 @@ use Rattle.fl_c_operations.specs.declared.answer.Outcome.TheVariants.{Acknowledg
 use Rattle.fl_c_operations.specs.declared.answer.UseFault.{UseFault}
 use Rattle.fl_c_operations.specs.declared.answer.UseFault.TheVariants.{NoSuchOperation, WrongRoom, Unread, End}
 use Rattle.fl_c_operations.specs.Sides.{Tells}
-use Rattle.fl_c_operations.specs.Calls.{AreCall, RefusesNumbers, PutsCall}
+use Rattle.fl_c_operations.specs.declared.kept.KeptCall.{KeptCall}
+use Rattle.fl_c_operations.specs.declared.kept.KeptCall.TheVariants.{Whole}
+use Rattle.fl_c_operations.specs.Calls.{AreCall, RefusesNumbers, numbers_of_call, PutsNumbers}
 use Rattle.fl_c_operations.specs.View.{TheHeld, program_of_held, ChangesEnd}
 
 -- ---- a call is made
@@ -52,7 +57,7 @@ WritesBy h (Err fault) t = ⊥
 
 -- ---- a fragment is taken
 
--- what a receive comes to, as it is told, and the call that stays to be read
+-- what a receive comes to, as it is told, and the call that the code keeps then
 abbrev pub received_as : Result ReceiveAnswer EndFault → Result Outcome UseFault
 received_as (Ok (Handle call)) = Ok Handled
 received_as (Ok Part) = Ok PartTaken
@@ -61,14 +66,28 @@ received_as (Ok Empty) = Ok NothingThere
 received_as (Ok HeldBack) = Ok Held
 received_as (Err fault) = Err (End fault)
 
-abbrev pub handled_in : Result ReceiveAnswer EndFault → Option Call
-handled_in (Ok (Handle call)) = Some call
-handled_in answer = None
+abbrev pub kept_in : Result ReceiveAnswer EndFault → Option KeptCall
+kept_in (Ok (Handle call)) = Some (Whole call)
+kept_in answer = None
 
--- the end receives by its side, at its place
+-- an end takes the fragment that stands first, and handles the call that it makes whole: what a receive says of it
+abbrev pub TakesCall : TheEnd → TheSide → TheCall → TheEnd → TheSide → Type 0
+TakesCall s p c t q =
+    IsOpen s × ((f : Frag) × (m : TheSide) × (bare f ≡ f) × SharedTakes p (saw f) m × SharedTakes m (found f) q
+    × (AreFrags s (s.parts ++ f ∷ []) c × (t ≡ with_handled s c)))
+
+-- the place stays the end's, with its program, and the end handles the call
+pub record HandlesWith (h : TheHeld) (c : TheCall) (t : TheHeld) (was is : TheReassembly) : Type 0 where
+  pub of : IsOf t.end is
+  pub program : is.program ≡ was.program
+  pub takes : TakesCall (with_parts h.end was.parts) h.side c (with_parts t.end is.parts) t.side
+
+-- the end receives by its side, at its place: the numbers of a call that it handles stay to be read
 abbrev pub ReceivesNext : TheHeld → Result Outcome UseFault → TheHeld → Type 0
+ReceivesNext h (Ok Handled) t =
+    (c : TheCall) × ChangesPlace h.calls 0 (HandlesWith h c t) t.calls × (t.handled ≡ Some (numbers_of_call (program_of_held h) c))
 ReceivesNext h r t = (answer : Result ReceiveAnswer EndFault)
-    × ReceivesAt SharedTakes (receipt h.end h.side answer t.end t.side) h.calls 0 t.calls × (r ≡ received_as answer) × (t.handled ≡ handled_in answer)
+    × ReceivesAt SharedTakes (receipt h.end h.side answer t.end t.side) h.calls 0 t.calls × (r ≡ received_as answer) × (t.handled ≡ None)
 
 -- nothing is taken while a call that was handled is unread
 abbrev pub ReceivesBy : TheHeld → Result Outcome UseFault → TheHeld → Type 0
@@ -82,11 +101,11 @@ without_handled h = record { end = h.end; side = h.side; calls = h.calls; handle
 
 abbrev pub ReadsBy : TheHeld → List ℕ → Result Outcome UseFault → TheHeld → List ℕ → Type 0
 ReadsBy h room (Ok (CallRead count)) t written =
-    ((call : Call) × (h.handled ≡ Some call) × PutsCall (program_of_held h) call room (Ok count) written) × (t ≡ without_handled h)
+    ((numbers : List ℕ) × (h.handled ≡ Some numbers) × PutsNumbers numbers room (Ok count) written) × (t ≡ without_handled h)
 ReadsBy h room (Ok NothingThere) t written = (h.handled ≡ None) × (t ≡ h) × (written ≡ room)
 ReadsBy h room (Ok outcome) t written = ⊥
 ReadsBy h room (Err fault) t written =
-    ((call : Call) × (h.handled ≡ Some call) × PutsCall (program_of_held h) call room (Err fault) written) × (t ≡ h)
+    ((numbers : List ℕ) × (h.handled ≡ Some numbers) × PutsNumbers numbers room (Err fault) written) × (t ≡ h)
 
 -- ---- a reply rule is set
 

@@ -4,7 +4,9 @@ pub mod View
 pub mod Calls
 pub mod Shorts
 pub mod After
-pub mod Fronts
+pub mod Transmissions
+pub mod Seen
+pub mod Glances
 pub mod Ends
 pub mod Runs
 pub mod Making

@@ -72,9 +72,9 @@ fn without_memory(program: &Program, message: MsgNo, tape: &[u64]) -> Result<Opt
     Ok(None)
 }
 
-// Writes a call's message and tape into the first places of a room.
+/// Writes a call's message and tape into the first places of a room.
 #[inline]
-fn write_numbers(room: &mut [u64], message: u16, tape: &[u64])
+pub(crate) fn write_numbers(room: &mut [u64], message: u16, tape: &[u64])
     requires room { length tape.now + 1 ≤ length room.old }
     ensures numbers { room.new ≡ (message ∷ tape.now) ++ drop (length tape.now + 1) room.old }
 {

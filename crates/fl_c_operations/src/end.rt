@@ -3,20 +3,23 @@
 ghost use Rattle.std.specs.Prelude.{◌≡◌, None, IfOk};
 ghost use Rattle.fl_c_operations.specs.Sides.{Tells};
 ghost use Rattle.fl_c_operations.specs.View.{IsNewEnd};
-ghost use Rattle.fl_c_operations.specs.Ends.{called_as, received_as, handled_in};
+ghost use Rattle.fl_c_operations.specs.Ends.{called_as, received_as, kept_in};
 ghost use Rattle.fl_c_operations.specs.Ends.{CallsBy, WritesBy, ReceivesNext, ReceivesBy, ReadsBy, RulesBy, IsBusyBy, UsesEnd};
 
 use crate::answer::{Outcome, UseFault};
-use crate::calls::{put_numbers, read_numbers};
-use crate::fronted::FrontedEnd;
+use crate::calls::read_numbers;
+use crate::glance::{Glance, receive_lent, take_glance};
+use crate::kept::{KeptCall, put_kept};
+use crate::looked::LookedSide;
 use crate::operation::Operation;
 use crate::side::tell;
+use crate::transmitting::TransmittingEnd;
 use fl_base::{Circuit, MsgNo};
 use fl_compile::Program;
 use fl_endpoint::{End, EndFault, ReceiveAnswer, WriteAnswer};
 use fl_machine::Reassemblies;
 use fl_ring::SharedSide;
-use fl_value_data::Call;
+use fl_wire::law_one_reading;
 use std::alloc::{AllocError, Global};
 use std::marker::Model;
 
@@ -24,10 +27,12 @@ use std::marker::Model;
 #[derive(Drop)]
 pub struct HeldEnd {
     alloc: Global,
-    end: FrontedEnd,
-    side: SharedSide,
+    end: TransmittingEnd,
+    side: LookedSide,
     calls: Reassemblies,
-    handled: Option<Call>,
+    handled: Option<KeptCall>,
+    // nothing was taken of a call that isn't whole
+    between: bool,
     // memory that is used again
     spare: Vec<u64>,
 }
@@ -35,17 +40,15 @@ pub struct HeldEnd {
 impl Model for HeldEnd {
     ghost use Rattle.std.specs.Coded.{codes};
     ghost use Rattle.fl_compile.specs.contracts.program.Program.{the_row as program_row};
-    ghost use Rattle.fl_value_data.specs.contracts.value.Call.{the_row as call_row};
-    ghost use Rattle.fl_endpoint.specs.Lent.{IsPlaceOf};
-    ghost use Rattle.fl_c_operations.specs.View.{TheHeld};
+    ghost use Rattle.fl_c_operations.specs.View.{TheHeld, handled_by, IsHeld};
 
     ghost Value = { TheHeld };
 
-    ghost coded = { Prim.hlevel (codes, program_row.coded, call_row.coded) };
+    ghost coded = { Prim.hlevel (codes, program_row.coded) };
 
-    ghost view = { λ h. record { end = h.end; side = h.side; calls = h.calls; handled = h.handled } };
+    ghost view = { λ h. record { end = h.end; side = h.side.side; calls = h.calls; handled = handled_by h.end.program h.handled } };
 
-    ghost invariant = { λ h. IsPlaceOf h.end h.calls 0 };
+    ghost invariant = { λ h. IsHeld h.end h.calls h.between };
 }
 
 // What a call comes to, as it is told.
@@ -61,12 +64,14 @@ fn called(answer: Result<(), EndFault>) -> Result<Outcome, UseFault>
 
 // What a receive comes to, as it is told, and the call that stays to be read.
 #[inline]
-fn received(answer: Result<ReceiveAnswer, EndFault>) -> (Result<Outcome, UseFault>, Option<Call>)
+fn received(
+    answer: Result<ReceiveAnswer, EndFault>,
+) -> (Result<Outcome, UseFault>, Option<KeptCall>)
     ensures told { result.0 ≡ received_as answer }
-    ensures handled { result.1 ≡ handled_in answer }
+    ensures kept { result.1 ≡ kept_in answer }
 {
     match answer {
-        Ok(ReceiveAnswer::Handle(call)) => (Ok(Outcome::Handled), Some(call)),
+        Ok(ReceiveAnswer::Handle(call)) => (Ok(Outcome::Handled), Some(KeptCall::Whole(call))),
         Ok(ReceiveAnswer::Part) => (Ok(Outcome::PartTaken), None),
         Ok(ReceiveAnswer::Quiet) => (Ok(Outcome::Acknowledgement), None),
         Ok(ReceiveAnswer::Empty) => (Ok(Outcome::Nothing), None),
@@ -86,13 +91,14 @@ impl HeldEnd {
         let end = End::new(alloc, program, Circuit(0))?;
         let mut calls = Reassemblies::new(alloc);
         end.add_place(&mut calls)?;
-        let fronted = FrontedEnd::new(end);
+        let transmitting = TransmittingEnd::new(end);
         Ok(HeldEnd {
             alloc,
-            end: fronted,
-            side,
+            end: transmitting,
+            side: LookedSide::new(side),
             calls,
             handled: None,
+            between: true,
             spare: Vec::new(alloc),
         })
     }
@@ -135,7 +141,8 @@ impl HeldEnd {
     pub fn write(&mut self) -> Result<Outcome, UseFault>
         ensures writes { WritesBy self.old result self.new }
     {
-        match self.end.write(&mut self.side) {
+        self.side.forget();
+        match self.end.write(&mut self.side.side) {
             Ok(WriteAnswer::Written { number, count }) => {
                 let left = (count - number) as u64;
                 Ok(Outcome::Wrote { left })
@@ -166,10 +173,22 @@ impl HeldEnd {
         requires read { self.old.handled ≡ None }
         ensures receives { ReceivesNext self.old result self.new }
     {
-        let answer = self.end.receive(&mut self.side, &mut self.calls, 0);
-        let (outcome, handled) = received(answer);
-        self.handled = handled;
-        outcome
+        match take_glance(&self.end, &mut self.side, self.between) {
+            Glance::Nothing => Ok(Outcome::Nothing),
+            Glance::Acknowledgement => Ok(Outcome::Acknowledgement),
+            Glance::Short(call) => {
+                law_one_reading();
+                self.handled = Some(KeptCall::Short(call));
+                Ok(Outcome::Handled)
+            }
+            Glance::Untaken => {
+                let answer = receive_lent(&mut self.end, &mut self.side, &mut self.calls);
+                let (outcome, handled) = received(answer);
+                self.between = handled.is_some();
+                self.handled = handled;
+                outcome
+            }
+        }
     }
 
     /// Reads the call that was handled: its message's number and its tape stand first in the room then.
@@ -184,7 +203,7 @@ impl HeldEnd {
         let Some(call) = &self.handled else {
             return Ok(Outcome::Nothing);
         };
-        match put_numbers(self.end.program(), call, &mut self.spare, room) {
+        match put_kept(self.end.program(), call, &mut self.spare, room) {
             Err(fault) => Err(fault),
             Ok(count) => {
                 self.handled = None;
@@ -223,7 +242,8 @@ impl HeldEnd {
         ensures tells { Tells self.old.side result self.new.side }
         ensures only { (self.new.end ≡ self.old.end) × (self.new.calls ≡ self.old.calls) × (self.new.handled ≡ self.old.handled) }
     {
-        tell(&mut self.side)
+        self.side.forget();
+        tell(&mut self.side.side)
     }
 
     /// Whether a call is in transmission.

@@ -9,8 +9,10 @@
 //! - `operation.rt`: the operations, by number
 //! - `side.rt`: operations at a side of a ring
 //! - `end.rt`: an end with its side and place, and operations at it (`specs/Ends.antt`)
-//! - `fronted.rt`: an end with the only fragment of a call in front of what it sends (`specs/Fronts.antt`)
+//! - `transmitting.rt`: an end with a call of one fragment in transmission (`specs/Transmissions.antt`)
 //! - `short.rt`: calls of one fragment as numbers, without values (`specs/Shorts.antt`)
+//! - `glance.rt`: what an end takes at its first look (`specs/Glances.antt`); `looked.rt`: a side that has seen what stands first
+//!   (`specs/Seen.antt`); `kept.rt`: a call that was handled, until it is read
 //! - `calls.rt`: calls as numbers (`specs/Calls.antt`); `tapes.rt`: whether a tape is a call's, where memory ran out
 //! - `program.rt`, `sender.rt`, `receiver.rt`: a program alone, and runs of its stubs alone (`specs/Runs.antt`)
 //! - `making.rt`: the ends, or the program, of a text or an image (`specs/Making.antt`)
@@ -20,9 +22,11 @@
 mod answer;
 mod calls;
 mod end;
-mod fronted;
+mod glance;
 mod handing;
 mod handle;
+mod kept;
+mod looked;
 mod making;
 mod operation;
 mod program;
@@ -32,6 +36,7 @@ mod sending;
 mod short;
 mod side;
 mod tapes;
+mod transmitting;
 
 pub use answer::{Answered, Outcome, UseFault};
 pub use end::{HeldEnd, use_end};

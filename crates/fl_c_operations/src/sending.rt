@@ -8,13 +8,16 @@ ghost use Rattle.fl_machine.specs.contracts.send.SendRun as SendRunRows;
 ghost use Rattle.fl_machine.specs.contracts.recv.RecvRun as RecvRunRows;
 ghost use Rattle.fl_endpoint.specs.contracts.end.End as EndRows;
 ghost use Rattle.fl_ring.specs.contracts.shared.duo_sides.SharedSide as SharedSideRows;
-ghost use Rattle.fl_c_operations.specs.contracts.fronted.FrontedEnd as FrontedRows;
+ghost use Rattle.fl_c_operations.specs.contracts.transmitting.TransmittingEnd as TransmittingRows;
+ghost use Rattle.fl_c_operations.specs.contracts.looked.LookedSide as LookedRows;
+ghost use Rattle.fl_c_operations.specs.contracts.kept.KeptCall as KeptRows;
 ghost use Rattle.fl_c_operations.specs.contracts.end.HeldEnd as HeldRows;
 ghost use Rattle.fl_c_operations.specs.contracts.program.HeldProgram as HeldProgramRows;
 ghost use Rattle.fl_c_operations.specs.contracts.sender.HeldSender as SenderRows;
 ghost use Rattle.fl_c_operations.specs.contracts.receiver.HeldReceiver as ReceiverRows;
 ghost use Rattle.fl_c_operations.specs.contracts.handle.Handle as HandleRows;
 
+use crate::kept::KeptCall;
 use crate::program::HeldProgram;
 use fl_compile::Program;
 use fl_endpoint::End;
@@ -47,8 +50,8 @@ fn end_sent()
     sends::<End>();
 }
 
-fn fronted_sent()
-    ensures sent { IsSend FrontedRows.the_row }
+fn transmitting_sent()
+    ensures sent { IsSend TransmittingRows.the_row }
 {
     end_sent();
 }
@@ -66,13 +69,26 @@ fn side_sent()
     sends::<SharedSide>();
 }
 
+fn looked_sent()
+    ensures sent { IsSend LookedRows.the_row }
+{
+    side_sent();
+}
+
+fn kept_sent()
+    ensures sent { IsSend KeptRows.the_row }
+{
+    call_sent();
+    sends::<KeptCall>();
+}
+
 fn held_sent()
     ensures sent { IsSend HeldRows.the_row }
 {
-    fronted_sent();
+    transmitting_sent();
+    looked_sent();
     calls_sent();
-    side_sent();
-    call_sent();
+    kept_sent();
 }
 
 fn send_run_sent()

@@ -3,10 +3,11 @@
 //! Handles are made here and handed on by value: what is asked of them stands over [`Asked`], which knows of no handle's parts.
 
 use fl_c_operations::{
-    Answered, Handle, HeldProgram, MakeFault, UseFault, image_ends, new_run, ring_handles,
+    Answered, Handle, HeldEnd, HeldProgram, MakeFault, UseFault, image_ends, new_run, ring_handles,
     text_ends, text_program, use_handle,
 };
-use fl_ring::RingFault;
+use fl_compile::Program;
+use fl_ring::{RingFault, duo};
 use fl_value_data::PlanNo;
 use std::alloc::{AllocError, Global};
 use std::mem::{align_of, size_of};
@@ -30,8 +31,12 @@ const LONG: &[u64] = &[3, 1, 2, 3, 4, 5, 6, 7, 8];
 
 const ECHO: &[u64] = &[0, 2, 97, 98];
 
-// A call of scalars alone.
+// A call of scalars alone; its only fragment; and the same with a byte between its arguments that isn't 0.
 const PAIR: &[u64] = &[2, 7, 65_535];
+
+const ONLY: &[u64] = &[4_294_901_767, 0, 0, 0, 0, 0, 0, 131_074];
+
+const WRONG: &[u64] = &[4_294_902_023, 0, 0, 0, 0, 0, 0, 131_074];
 
 // The alignment and the size of a handle's block.
 const ALIGN: u32 = align_of::<Handle>() as u32;
@@ -129,6 +134,63 @@ const CALLS: &[Row] = &[
     (1, 9, &[7; 3], (0, 1, 3), PAIR),
     (1, 8, &[], (0, 4, 0), &[]),
     (1, 9, &[7; 4], (0, 1, 4), &[1, 2, 97, 98]),
+    // One that comes while a reply by rule waits to be written.
+    (1, 6, ECHO, (0, 0, 0), ECHO),
+    (1, 7, &[], (0, 1, 0), &[]),
+    (1, 6, PAIR, (0, 0, 0), PAIR),
+    (1, 7, &[], (0, 1, 0), &[]),
+    (2, 8, &[], (0, 4, 0), &[]),
+    (2, 9, &[7; 4], (0, 1, 4), ECHO),
+    (2, 8, &[], (0, 4, 0), &[]),
+    (2, 8, &[], (105, 0, 0), &[]),
+    (2, 9, &[7; 2], (103, 0, 3), &[7; 2]),
+    (2, 9, &[7; 4], (0, 1, 3), &[2, 7, 65_535, 7]),
+    (2, 9, &[7; 4], (0, 0, 0), &[7; 4]),
+    (2, 7, &[], (0, 1, 0), &[]),
+    (2, 7, &[], (0, 0, 0), &[]),
+    (1, 8, &[], (0, 4, 0), &[]),
+    (1, 9, &[7; 4], (0, 1, 4), &[1, 2, 97, 98]),
+    // One to which there is a reply by rule.
+    (1, 10, &[2, 2], (0, 0, 0), &[2, 2]),
+    (2, 6, PAIR, (0, 0, 0), PAIR),
+    (2, 7, &[], (0, 1, 0), &[]),
+    (1, 8, &[], (0, 4, 0), &[]),
+    (1, 9, &[7; 3], (0, 1, 3), PAIR),
+    (1, 11, &[], (0, 1, 0), &[]),
+    (1, 7, &[], (0, 1, 0), &[]),
+    (2, 8, &[], (0, 4, 0), &[]),
+    (2, 9, &[7; 3], (0, 1, 3), PAIR),
+];
+
+// At a side of a ring, and at the end over the other side: calls of one fragment before and behind one of two, and behind them a wrong
+// fragment, at which the end fails for good.
+const BEHIND: &[Row] = &[
+    (1, 1, ONLY, (0, 0, 0), ONLY),
+    (1, 1, FIRST, (0, 0, 0), FIRST),
+    (1, 1, LAST, (0, 0, 0), LAST),
+    (1, 1, ONLY, (0, 0, 0), ONLY),
+    (1, 1, WRONG, (0, 0, 0), WRONG),
+    (1, 1, ONLY, (0, 0, 0), ONLY),
+    (2, 8, &[], (0, 4, 0), &[]),
+    (2, 9, &[7; 3], (0, 1, 3), PAIR),
+    (2, 8, &[], (0, 1, 0), &[]),
+    (2, 8, &[], (0, 4, 0), &[]),
+    (2, 9, &[7; 9], (0, 1, 9), LONG),
+    (2, 8, &[], (0, 4, 0), &[]),
+    (2, 9, &[7; 3], (0, 1, 3), PAIR),
+    (2, 8, &[], (63, 0, 0), &[]),
+    (2, 8, &[], (64, 0, 0), &[]),
+    (2, 6, PAIR, (64, 0, 0), PAIR),
+    (2, 7, &[], (64, 0, 0), &[]),
+];
+
+// The same where such a call comes before one under way is whole.
+const INSIDE: &[Row] = &[
+    (1, 1, FIRST, (0, 0, 0), FIRST),
+    (1, 1, ONLY, (0, 0, 0), ONLY),
+    (2, 8, &[], (0, 1, 0), &[]),
+    (2, 8, &[], (61, 0, 0), &[]),
+    (2, 8, &[], (64, 0, 0), &[]),
 ];
 
 // The first handle is a send run, the second a receive run.
@@ -273,6 +335,40 @@ fn ends_answer(alloc: Global) -> Result<bool, AllocError> {
 #[test]
 fn calls_go_over(rt: HostRuntime) -> Result<(), Fail> {
     assert!(rt; ends_answer(rt.alloc())?);
+    Ok(())
+}
+
+// A side of a ring, and the end over the other side, if there was memory for it.
+fn ring_answers<S: Asked>(
+    side: S,
+    end: Result<HeldEnd, AllocError>,
+    rows: &[Row],
+) -> Result<bool, AllocError> {
+    match end {
+        Ok(end) => all_come_at(side, Handle::End(end), rows),
+        Err(AllocError) => Err(AllocError),
+    }
+}
+
+fn end_of(alloc: Global, program: Program, rows: &[Row]) -> Result<bool, AllocError> {
+    match duo(alloc, 8) {
+        Ok((one, two)) => ring_answers(Handle::Side(one), HeldEnd::new(alloc, program, two), rows),
+        Err(_) => Err(AllocError),
+    }
+}
+
+fn end_answers(alloc: Global, rows: &[Row]) -> Result<bool, AllocError> {
+    match text_program(alloc, TEXT, PlanNo::One) {
+        Ok(program) => end_of(alloc, program, rows),
+        Err(_) => Err(AllocError),
+    }
+}
+
+#[test]
+fn wrong_fragments_fail_an_end(rt: HostRuntime) -> Result<(), Fail> {
+    for rows in [BEHIND, INSIDE] {
+        assert!(rt; end_answers(rt.alloc(), rows)?);
+    }
     Ok(())
 }
 

@@ -1,9 +1,0 @@
-use Rattle.std.proofs.Common.{ap, sym, ◌∙◌}
-use Rattle.fl_endpoint.specs.View.{TheEnd}
-use Rattle.fl_c_operations.proofs.Fronts.{program_behind}
-use Rattle.fl_c_operations.proofs.fronted.FrontedEnd.program.Goals as goal
-
-pub returns : goal.returns
-returns c =
-    let h = c.self.inside in
-    record { program = c.program.ensures.program ∙ sym (program_behind h.front h.end) ∙ ap (λ (s : TheEnd). s.program) c.self.view_is }
