@@ -1,10 +1,10 @@
 -- The calls of a message of few numbers, their tapes and their fragments.
-use Rattle.std.proofs.Common.{◌≡◌, ℕ, zero, suc, ◌+◌, ◌^◌, ◌<◌, ◌≤◌, ⊎_elim, Bool, true, false, cond, leb, eqb, ltb, List, [], ◌∷◌, length, map, get_or, take, replicate, refl, sym, ◌∙◌, ap, subst, arith}
+use Rattle.std.proofs.Common.{◌≡◌, ℕ, zero, suc, ◌+◌, ◌<◌, ◌≤◌, Bool, true, false, cond, leb, eqb, ltb, List, [], ◌∷◌, length, map, get_or, take, replicate, refl, sym, ◌∙◌, ap, subst, arith}
 use Rattle.std.specs.Prelude.{Option, Some, None, slice_get}
 use Rattle.std.specs.List.{zip, flat_map, list_all, remove, range_with_len}
 use Rattle.std.specs.Cmp.{first_so, second_so}
-use Rattle.std.proofs.lemmas.Bool.{cases_lt, false≢true, leb-true, eqb-true}
-use Rattle.std.proofs.lemmas.List.{map-id, get_or_past}
+use Rattle.std.proofs.lemmas.Bool.{false≢true, leb-true, eqb-true}
+use Rattle.std.proofs.lemmas.List.{map-id}
 use Rattle.std.proofs.lemmas.List.Edits.{length-remove}
 use Rattle.std.proofs.lemmas.List.Sums.{count_by-le-length}
 use Rattle.fl_base.specs.declared.fragment.Frag.{Frag}
@@ -24,16 +24,14 @@ use Rattle.fl_value_data.proofs.Untaped.{call_found, all_types}
 use Rattle.fl_layout.specs.Leaves.{Leaf, leaves, argument_types, arguments_onto}
 use Rattle.fl_layout.specs.Places.{size, count}
 use Rattle.fl_layout.proofs.Order.{all_arranged}
-use Rattle.fl_wire.specs.Headers.{Line}
-use Rattle.fl_wire.specs.Widths.{number_width}
 use Rattle.fl_wire.specs.Payload.{payload_of, frag_on, frags_on}
 use Rattle.fl_codec.specs.declared.place.NumberPlace.{NumberPlace}
 use Rattle.fl_codec.specs.declared.codec.Codec.{Codec}
-use Rattle.fl_codec.specs.Places.{is_number, has_few_numbers, places_behind}
-use Rattle.fl_codec.specs.Words.{is_inside, filled, Taken, taken, numbers_in}
-use Rattle.fl_codec.specs.Codecs.{IsCodecOf, IsOnlyFrag}
-use Rattle.fl_codec.proofs.Numbers.{words_of}
-use Rattle.fl_codec.proofs.Puts.{AreWords, refills}
+use Rattle.fl_codec.specs.NumberPlaces.{is_number, has_few_numbers, width_of, places_behind}
+use Rattle.fl_codec.specs.Words.{is_inside, filled, Emptied, taken, numbers_filling, AreWords}
+use Rattle.fl_codec.specs.Codecs.{IsCodecOf, IsFragOfTape, OneTapeOneFrag}
+use Rattle.fl_codec.proofs.Leaves.{words_of}
+use Rattle.fl_codec.proofs.Puts.{refills}
 use Rattle.fl_codec.proofs.Values.{AreValuesOf, leaves_onto, numbers_of, their_tape, they_stand, as_many_values, sizes_within, values_fill, values_taken, values_there}
 
 -- ---- the plan's order, there and back
@@ -175,7 +173,7 @@ some_told a b e = cc
 
 -- words that a tape fills are its call's
 pub encoded : (plan : PlanNo) (i : TheInterface) (circuit msg : ℕ) (x : IsFew i msg) (tape ws : List ℕ) → filled (places_behind 0 (types_in plan i msg x)) tape zeros ≡ Some ws
-    → IsOnlyFrag plan i circuit msg tape (record { words = ws; control = control_word true msg circuit })
+    → IsFragOfTape plan i circuit msg tape (record { words = ws; control = control_word true msg circuit })
 encoded plan i circuit msg x tape ws e =
     let us = types_in plan i msg x in
     let (ds, are) = values_there us tape zeros ws 0 (types_number plan i msg x) e in
@@ -208,7 +206,7 @@ all_zero (suc n) (w ∷ ws) long h =
 record FillsWhole (ps : List NumberPlace) (ws ns : List ℕ) : Type 0 where
   whole : filled ps ns zeros ≡ Some ws
 
-whole_by : (ps : List NumberPlace) (ws ns : List ℕ) (t : Taken) (b : Bool) → list_all (λ w. eqb w 0) t.left ≡ b → list_all is_inside ps ≡ true → AreWords ws → taken ps ws ≡ Some t
+whole_by : (ps : List NumberPlace) (ws ns : List ℕ) (t : Emptied) (b : Bool) → list_all (λ w. eqb w 0) t.left ≡ b → list_all is_inside ps ≡ true → AreWords ws → taken ps ws ≡ Some t
     → cond b (Some t.numbers) None ≡ Some ns → FillsWhole ps ws ns
 whole_by ps ws ns t false blank inside words is e = absurd (cc)
 whole_by ps ws ns t true blank inside words is e =
@@ -217,14 +215,14 @@ whole_by ps ws ns t true blank inside words is e =
     let same : t.numbers ≡ ns = cc in
     record { whole = ap (λ (l : List ℕ). filled ps l zeros) (sym same) ∙ ap (filled ps t.numbers) (sym none) ∙ r.fills }
 
-whole_at : (ps : List NumberPlace) (ws ns : List ℕ) (o : Option Taken) → taken ps ws ≡ o → list_all is_inside ps ≡ true → AreWords ws
-    → given o None (λ (t : Taken). cond (list_all (λ w. eqb w 0) t.left) (Some t.numbers) None) ≡ Some ns → FillsWhole ps ws ns
+whole_at : (ps : List NumberPlace) (ws ns : List ℕ) (o : Option Emptied) → taken ps ws ≡ o → list_all is_inside ps ≡ true → AreWords ws
+    → given o None (λ (t : Emptied). cond (list_all (λ w. eqb w 0) t.left) (Some t.numbers) None) ≡ Some ns → FillsWhole ps ws ns
 whole_at ps ws ns None is inside words e = absurd (cc)
 whole_at ps ws ns (Some t) is inside words e = whole_by ps ws ns t (list_all (λ w. eqb w 0) t.left) refl inside words is e
 
 -- words from which a tape is taken are its call's
 pub decoded : (plan : PlanNo) (i : TheInterface) (circuit msg : ℕ) (x : IsFew i msg) (tape ws : List ℕ) → list_all is_inside (places_behind 0 (types_in plan i msg x)) ≡ true → AreWords ws
-    → numbers_in (places_behind 0 (types_in plan i msg x)) ws ≡ Some tape → IsOnlyFrag plan i circuit msg tape (record { words = ws; control = control_word true msg circuit })
+    → numbers_filling (places_behind 0 (types_in plan i msg x)) ws ≡ Some tape → IsFragOfTape plan i circuit msg tape (record { words = ws; control = control_word true msg circuit })
 decoded plan i circuit msg x tape ws inside words e =
     let ps = places_behind 0 (types_in plan i msg x) in
     encoded plan i circuit msg x tape ws (whole_at ps ws tape (taken ps ws) refl inside words e).whole
@@ -233,82 +231,99 @@ first_told : (f g : Frag) → f ∷ [] ≡ g ∷ [] → f ≡ g
 first_told f g e = cc
 
 -- a fragment of one call has its words and its control word
-pub record IsFragOf (plan : PlanNo) (i : TheInterface) (circuit msg : ℕ) (x : IsFew i msg) (tape : List ℕ) (f : Frag) : Type 0 where
+pub record IsFilledBy (plan : PlanNo) (i : TheInterface) (circuit msg : ℕ) (x : IsFew i msg) (tape : List ℕ) (f : Frag) : Type 0 where
   pub ds : List Datum
   pub are : AreValuesOf (types_in plan i msg x) ds tape
   pub words_are : f.words ≡ words_of (leaves_onto (types_in plan i msg x) ds [])
   pub control_is : f.control ≡ control_word true msg circuit
 
-pub frag_is : (plan : PlanNo) (i : TheInterface) (circuit msg : ℕ) (x : IsFew i msg) (tape : List ℕ) (f : Frag) → IsOnlyFrag plan i circuit msg tape f → IsFragOf plan i circuit msg x tape f
+pub frag_is : (plan : PlanNo) (i : TheInterface) (circuit msg : ℕ) (x : IsFew i msg) (tape : List ℕ) (f : Frag) → IsFragOfTape plan i circuit msg tape f → IsFilledBy plan i circuit msg x tape f
 frag_is plan i circuit msg x tape f o =
     let h = call_of plan i msg x tape o.call o.has in
     let same : f ≡ frag_of circuit msg (leaves_onto (types_in plan i msg x) h.ds []) = first_told _ _ (sym o.frags ∙ only_frag plan i circuit msg x tape o.call h) in
     record { ds = h.ds; are = h.are; words_are = ap (λ (g : Frag). g.words) same; control_is = ap (λ (g : Frag). g.control) same }
 
 -- words from which none is taken are no call's
-pub not_decoded : (plan : PlanNo) (i : TheInterface) (circuit msg : ℕ) (x : IsFew i msg) (f : Frag) → numbers_in (places_behind 0 (types_in plan i msg x)) f.words ≡ None
-    → (tape : List ℕ) → IsOnlyFrag plan i circuit msg tape f → ⊥
+pub not_decoded : (plan : PlanNo) (i : TheInterface) (circuit msg : ℕ) (x : IsFew i msg) (f : Frag) → numbers_filling (places_behind 0 (types_in plan i msg x)) f.words ≡ None
+    → (tape : List ℕ) → IsFragOfTape plan i circuit msg tape f → ⊥
 not_decoded plan i circuit msg x f e tape o =
     let us = types_in plan i msg x in
     let h = frag_is plan i circuit msg x tape f o in
     let all = ap (taken (places_behind 0 us)) h.words_are ∙ values_taken us h.ds tape [] 0 (types_number plan i msg x) h.are (omega arith) (omega (arith, types_few plan i msg x)) in
-    let some : numbers_in (places_behind 0 us) f.words ≡ Some tape
-    = ap (λ (o : Option Taken). given o None (λ (t : Taken). cond (list_all (λ w. eqb w 0) t.left) (Some t.numbers) None)) all in
+    let some : numbers_filling (places_behind 0 us) f.words ≡ Some tape
+    = ap (λ (o : Option Emptied). given o None (λ (t : Emptied). cond (list_all (λ w. eqb w 0) t.left) (Some t.numbers) None)) all in
     let none = sym some ∙ e in
     cc
 
 -- ---- the codec of the message
 
-pub places_are : (plan : PlanNo) (i : TheInterface) (msg : ℕ) (c : Codec) (k : IsCodecOf plan i msg c) → take c.count c.places ≡ places_behind 0 (types_in plan i msg (few_of i msg k.short))
+pub places_are : (plan : PlanNo) (i : TheInterface) (msg : ℕ) (c : Codec) (k : IsCodecOf plan i msg c) → take c.count c.places ≡ places_behind 0 (types_in plan i msg (few_of i msg k.few))
 places_are plan i msg c k =
-    let x = few_of i msg k.short in
+    let x = few_of i msg k.few in
     k.places ∙ ap (λ (o : Option TheMessage). places_behind 0 (planned_types plan (types_of o))) x.here
 
 length_places : (end : ℕ) (ts : List TheArgType) → length (places_behind end ts) ≡ length ts
 length_places end [] = refl
-length_places end (t ∷ ts) = ap (λ (n : ℕ). suc n) (length_places (round_up end (number_width t) + number_width t) ts)
+length_places end (t ∷ ts) = ap (λ (n : ℕ). suc n) (length_places (round_up end (width_of t) + width_of t) ts)
 
 pub as_many_places : (plan : PlanNo) (i : TheInterface) (msg : ℕ) (c : Codec) (k : IsCodecOf plan i msg c) → length (take c.count c.places) ≡ c.count
 as_many_places plan i msg c k =
     let ts = argument_types i msg in
     ap length k.places ∙ length_places 0 (planned_types plan ts) ∙ all_types plan ts ∙ sym k.count
 
--- a fragment in memory has words
-pub line_words : (f : Frag) → Line f → AreWords f.words
-line_words f line = record {
-  seven = line.seven;
-  small = λ i. ⊎_elim
-      (λ (inside : i < length f.words). line.small i 0 inside)
-      (λ (past : length f.words ≤ i). subst (λ (n : ℕ). n < 2 ^ 64) (sym (get_or_past f.words i 0 past)) (omega arith))
-      (cases_lt i (length f.words));
-}
-
 -- what a codec encodes and decodes
 pub codec_encodes : (plan : PlanNo) (i : TheInterface) (circuit msg control : ℕ) (c : Codec) (k : IsCodecOf plan i msg c) (tape ws : List ℕ) → Some ws ≡ filled (take c.count c.places) tape zeros
-    → control ≡ control_word true c.msg.0 circuit → IsOnlyFrag plan i circuit msg tape (record { words = ws; control = control })
+    → control ≡ control_word true c.msg.0 circuit → IsFragOfTape plan i circuit msg tape (record { words = ws; control = control })
 codec_encodes plan i circuit msg control c k tape ws e is =
     let same : control_word true msg circuit ≡ control = sym (is ∙ ap (λ (n : ℕ). control_word true n circuit) k.message) in
-    subst (λ (n : ℕ). IsOnlyFrag plan i circuit msg tape (record { words = ws; control = n })) same
-    (encoded plan i circuit msg (few_of i msg k.short) tape ws (sym (e ∙ ap (λ (ps : List NumberPlace). filled ps tape zeros) (places_are plan i msg c k))))
+    subst (λ (n : ℕ). IsFragOfTape plan i circuit msg tape (record { words = ws; control = n })) same
+    (encoded plan i circuit msg (few_of i msg k.few) tape ws (sym (e ∙ ap (λ (ps : List NumberPlace). filled ps tape zeros) (places_are plan i msg c k))))
 
 pub codec_encodes_none : (plan : PlanNo) (i : TheInterface) (msg : ℕ) (c : Codec) (k : IsCodecOf plan i msg c) (tape : List ℕ) → None ≡ filled (take c.count c.places) tape zeros
     → (d : TheCall) → HasTape plan i msg tape d → ⊥
 codec_encodes_none plan i msg c k tape e =
-    not_encoded plan i msg (few_of i msg k.short) tape (sym (e ∙ ap (λ (ps : List NumberPlace). filled ps tape zeros) (places_are plan i msg c k)))
+    not_encoded plan i msg (few_of i msg k.few) tape (sym (e ∙ ap (λ (ps : List NumberPlace). filled ps tape zeros) (places_are plan i msg c k)))
 
-pub codec_decodes : (plan : PlanNo) (i : TheInterface) (circuit msg : ℕ) (c : Codec) (k : IsCodecOf plan i msg c) (f : Frag) (ns : List ℕ) → list_all is_inside (take c.count c.places) ≡ true → Line f
-    → Some (take (length (take c.count c.places)) ns) ≡ numbers_in (take c.count c.places) f.words → (bare f).control ≡ control_word true c.msg.0 circuit
-    → IsOnlyFrag plan i circuit msg (take c.count ns) (bare f)
-codec_decodes plan i circuit msg c k f ns inside line e is =
-    let x = few_of i msg k.short in
+pub codec_decodes : (plan : PlanNo) (i : TheInterface) (circuit msg : ℕ) (c : Codec) (k : IsCodecOf plan i msg c) (f : Frag) (ns : List ℕ) → list_all is_inside (take c.count c.places) ≡ true → AreWords f.words
+    → Some (take (length (take c.count c.places)) ns) ≡ numbers_filling (take c.count c.places) f.words → (bare f).control ≡ control_word true c.msg.0 circuit
+    → IsFragOfTape plan i circuit msg (take c.count ns) (bare f)
+codec_decodes plan i circuit msg c k f ns inside words e is =
+    let x = few_of i msg k.few in
     let ps = places_are plan i msg c k in
     let tape = take c.count ns in
     let same : control_word true msg circuit ≡ (bare f).control = sym (is ∙ ap (λ (n : ℕ). control_word true n circuit) k.message) in
-    subst (λ (n : ℕ). IsOnlyFrag plan i circuit msg tape (record { words = f.words; control = n })) same
-    (decoded plan i circuit msg x tape f.words (subst (λ (qs : List NumberPlace). list_all is_inside qs ≡ true) ps inside) (line_words f line)
-    (sym (ap (λ (n : ℕ). Some (take n ns)) (sym (as_many_places plan i msg c k)) ∙ e ∙ ap (λ (qs : List NumberPlace). numbers_in qs f.words) ps)))
+    subst (λ (n : ℕ). IsFragOfTape plan i circuit msg tape (record { words = f.words; control = n })) same
+    (decoded plan i circuit msg x tape f.words (subst (λ (qs : List NumberPlace). list_all is_inside qs ≡ true) ps inside) words
+    (sym (ap (λ (n : ℕ). Some (take n ns)) (sym (as_many_places plan i msg c k)) ∙ e ∙ ap (λ (qs : List NumberPlace). numbers_filling qs f.words) ps)))
 
-pub codec_decodes_none : (plan : PlanNo) (i : TheInterface) (circuit msg : ℕ) (c : Codec) (k : IsCodecOf plan i msg c) (f : Frag) → None ≡ numbers_in (take c.count c.places) f.words
-    → (tape : List ℕ) → IsOnlyFrag plan i circuit msg tape (bare f) → ⊥
+pub codec_decodes_none : (plan : PlanNo) (i : TheInterface) (circuit msg : ℕ) (c : Codec) (k : IsCodecOf plan i msg c) (f : Frag) → None ≡ numbers_filling (take c.count c.places) f.words
+    → (tape : List ℕ) → IsFragOfTape plan i circuit msg tape (bare f) → ⊥
 codec_decodes_none plan i circuit msg c k f e =
-    not_decoded plan i circuit msg (few_of i msg k.short) (bare f) (sym (e ∙ ap (λ (ps : List NumberPlace). numbers_in ps f.words) (places_are plan i msg c k)))
+    not_decoded plan i circuit msg (few_of i msg k.few) (bare f) (sym (e ∙ ap (λ (ps : List NumberPlace). numbers_filling ps f.words) (places_are plan i msg c k)))
+
+-- ---- one tape, one fragment
+
+filled_same : (plan : PlanNo) (i : TheInterface) (circuit msg : ℕ) (x : IsFew i msg) (s t : List ℕ) (f g : Frag) → IsFilledBy plan i circuit msg x s f → IsFilledBy plan i circuit msg x t g → s ≡ t → f ≡ g
+filled_same plan i circuit msg x s t f g a b e =
+    let ps = places_behind 0 (types_in plan i msg x) in
+    let words : f.words ≡ g.words
+    = a.words_are ∙ some_told _ _ (sym (fills plan i msg x s a.ds a.are) ∙ ap (λ (ns : List ℕ). filled ps ns zeros) e ∙ fills plan i msg x t b.ds b.are) ∙ sym b.words_are in
+    let made : List ℕ → ℕ → Frag = λ ws n. record { words = ws; control = n } in
+    ap (λ (ws : List ℕ). made ws f.control) words ∙ ap (made g.words) (a.control_is ∙ sym b.control_is)
+
+numbers_told : (a b : Emptied) → Some a ≡ Some b → a.numbers ≡ b.numbers
+numbers_told a b e = cc
+
+taken_same : (plan : PlanNo) (i : TheInterface) (circuit msg : ℕ) (x : IsFew i msg) (s t : List ℕ) (f g : Frag) → IsFilledBy plan i circuit msg x s f → IsFilledBy plan i circuit msg x t g → f ≡ g → s ≡ t
+taken_same plan i circuit msg x s t f g a b e =
+    let us = types_in plan i msg x in
+    let from = λ (ns : List ℕ) (h : Frag) (k : IsFilledBy plan i circuit msg x ns h).
+        ap (taken (places_behind 0 us)) k.words_are ∙ values_taken us k.ds ns [] 0 (types_number plan i msg x) k.are (omega arith) (omega (arith, types_few plan i msg x)) in
+    numbers_told _ _ (sym (from s f a) ∙ ap (λ (h : Frag). taken (places_behind 0 us) h.words) e ∙ from t g b)
+
+pub one_tape_one_frag : OneTapeOneFrag
+one_tape_one_frag plan i circuit msg s t f g few a b =
+    let x = few_of i msg few in
+    let k = frag_is plan i circuit msg x s f a in
+    let l = frag_is plan i circuit msg x t g b in
+    (filled_same plan i circuit msg x s t f g k l, taken_same plan i circuit msg x s t f g k l)

@@ -15,9 +15,9 @@ use Rattle.fl_value_data.proofs.Ranked.{arranged_ranks, next_rank, last_rank}
 use Rattle.fl_value_data.proofs.Untaped.{all_types}
 use Rattle.fl_codec.specs.declared.number.NumberType.{NumberType}
 use Rattle.fl_codec.specs.declared.placing.Placing.{Placing}
-use Rattle.fl_codec.specs.Places.{is_number, places_behind}
+use Rattle.fl_codec.specs.NumberPlaces.{is_number, places_behind}
 use Rattle.fl_codec.specs.Words.{is_inside}
-use Rattle.fl_codec.specs.Placing.{IsNumberType, IsPlacing, GoesOn}
+use Rattle.fl_codec.specs.Placing.{IsNumberType, IsPlacing, Places}
 use Rattle.fl_codec.proofs.Values.{number_is, ends_within, word_within}
 
 -- ---- places within a fragment
@@ -80,18 +80,18 @@ left_none plan rank args k h = ap (λ (l : List ArgType). types_of_rank plan ran
 
 -- ---- placings, one after another
 
-pub goes_self : (p : Placing) (ts : List TheArgType) → GoesOn p ts p ts
+pub goes_self : (p : Placing) (ts : List TheArgType) → Places p ts p ts
 goes_self p ts = record { places = refl; many = refl }
 
-pub goes_far : (p q r : Placing) (xs ys zs : List TheArgType) → GoesOn p xs q ys → GoesOn q ys r zs → GoesOn p xs r zs
+pub goes_far : (p q r : Placing) (xs ys zs : List TheArgType) → Places p xs q ys → Places q ys r zs → Places p xs r zs
 goes_far p q r xs ys zs g h = record { places = g.places ∙ h.places; many = g.many ∙ h.many }
 
 -- the same where what is left is said otherwise
-pub goes_along : (p q : Placing) (xs ys zs behind : List TheArgType) → ys ≡ zs → GoesOn p xs q (ys ++ behind) → GoesOn p xs q (zs ++ behind)
-goes_along p q xs ys zs behind e g = subst (λ (l : List TheArgType). GoesOn p xs q (l ++ behind)) e g
+pub goes_along : (p q : Placing) (xs ys zs behind : List TheArgType) → ys ≡ zs → Places p xs q (ys ++ behind) → Places p xs q (zs ++ behind)
+goes_along p q xs ys zs behind e g = subst (λ (l : List TheArgType). Places p xs q (l ++ behind)) e g
 
 -- room for all that is left, where there was room for all
-pub room_left : (p q : Placing) (xs ys : List TheArgType) → GoesOn p (xs ++ []) q (ys ++ []) → p.count + length xs ≤ 7 → q.count + length ys ≤ 7
+pub room_left : (p q : Placing) (xs ys : List TheArgType) → Places p (xs ++ []) q (ys ++ []) → p.count + length xs ≤ 7 → q.count + length ys ≤ 7
 room_left p q xs ys g h =
     let first : length (xs ++ []) ≡ length xs = ap length (append-nil xs) in
     let second : length (ys ++ []) ≡ length ys = ap length (append-nil ys) in
@@ -125,7 +125,7 @@ rank_room plan ts rank p small few h =
     omega (arith, few, h.many, split, length_ranks plan ts)
 
 pub rank_more : (plan : PlanNo) (ts : List TheArgType) (rank : ℕ) (p q : Placing) → rank < 5 → IsRanked plan ts rank p → IsPlacing q
-    → ((behind : List TheArgType) → GoesOn p (types_of_rank plan rank ts ++ behind) q behind) → IsRanked plan ts (rank + 1) q
+    → ((behind : List TheArgType) → Places p (types_of_rank plan rank ts ++ behind) q behind) → IsRanked plan ts (rank + 1) q
 rank_more plan ts rank p q small h sound goes =
     let behind = of_ranks (λ (t : TheArgType). t) plan (5 - (rank + 1)) (rank + 1) ts in
     let split = next_rank (λ (t : TheArgType). t) plan rank ts small in

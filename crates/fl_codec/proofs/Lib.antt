@@ -1,6 +1,6 @@
 pub mod Sums
 pub mod Puts
-pub mod Numbers
+pub mod Leaves
 pub mod Values
 pub mod Calls
 pub mod Kept

@@ -17,13 +17,12 @@ use Rattle.fl_value_data.specs.Tape.{raw_of, argument_tape, tape_of_argument}
 use Rattle.fl_value_data.specs.Taken.{ArgumentAt, InTurn}
 use Rattle.fl_layout.specs.Leaves.{Leaf, whole, bits_of, argument_onto, arguments_onto}
 use Rattle.fl_layout.specs.Places.{size}
-use Rattle.fl_wire.specs.Widths.{number_width}
 use Rattle.fl_wire.proofs.Agreement.{InRange, scalar_room, scalar_range, enum_range}
 use Rattle.fl_wire.proofs.Defaults.{numbers_some}
 use Rattle.fl_base.specs.Given.{given}
-use Rattle.fl_codec.specs.Places.{is_number, values_of, place_at, places_behind}
-use Rattle.fl_codec.specs.Words.{put, filled, Taken, taken_one, taken}
-use Rattle.fl_codec.proofs.Numbers.{words_of, put_leaf, taken_leaf}
+use Rattle.fl_codec.specs.NumberPlaces.{is_number, how_many_values, width_of, place_at, places_behind}
+use Rattle.fl_codec.specs.Words.{put, filled, Emptied, taken_one, taken}
+use Rattle.fl_codec.proofs.Leaves.{words_of, put_leaf, taken_leaf}
 
 -- ---- one number
 
@@ -81,9 +80,9 @@ with_bits width high below x room signs h = ⊎_elim
 
 -- a number's type
 pub record IsNumber (t : TheArgType) : Type 0 where
-  pub align : IsAlign (number_width t)
-  pub some : 0 < values_of t
-  pub room : values_of t ≤ 2 ^ (8 * number_width t)
+  pub align : IsAlign (width_of t)
+  pub some : 0 < how_many_values t
+  pub room : how_many_values t ≤ 2 ^ (8 * width_of t)
   pub plain : is_dynamic t ≡ false
 
 pub number_is : (t : TheArgType) → is_number t ≡ true → IsNumber t
@@ -99,8 +98,8 @@ number_is (sized most t) h = absurd (false≢true h)
 pub record IsValueOf (t : TheArgType) (d : Datum) (n : ℕ) : Type 0 where
   pub typed : is_argument t d ≡ true
   pub tape : argument_tape t d ≡ n ∷ []
-  pub onto : (low : List Leaf) → argument_onto t d low ≡ whole (number_width t) n ∷ low
-  pub few : n ≤ values_of t - 1
+  pub onto : (low : List Leaf) → argument_onto t d low ≡ whole (width_of t) n ∷ low
+  pub few : n ≤ how_many_values t - 1
 
 scalar_value : (s : Scalar) (z : ℤ) → is_scalar_value s z ≡ true → IsValueOf (fixed (scalar s)) (number z) (raw_of (scalar_bits s) z)
 scalar_value s z h =
@@ -136,7 +135,7 @@ enum_there n x most h =
     let same : x % 2 ^ 32 ≡ x = mod-eq_of_lt (omega (arith, most, h)) in
     (number (pos x), subst (λ (m : ℕ). IsValueOf (fixed (enumeration n)) (number (pos x)) m) same (enum_value n (pos x) most (lt-ltb x n h)))
 
-value_there : (t : TheArgType) (x : ℕ) → is_number t ≡ true → x ≤ values_of t - 1 → (d : Datum) × IsValueOf t d x
+value_there : (t : TheArgType) (x : ℕ) → is_number t ≡ true → x ≤ how_many_values t - 1 → (d : Datum) × IsValueOf t d x
 value_there (fixed (scalar s)) x k h = scalar_there s x (omega (arith, h, numbers_some s))
 value_there (fixed (enumeration n)) x k h =
     let some = leb-true 1 n (first_so _ _ k) in
@@ -183,7 +182,7 @@ abbrev pub leaves_onto : List TheArgType → List Datum → List Leaf → List L
 leaves_onto ts ds low = arguments_onto false (zip ts ds) low
 
 one_onto : (t : TheArgType) (ts : List TheArgType) (d : Datum) (ds : List Datum) (n : ℕ) (low : List Leaf) → IsNumber t → IsValueOf t d n
-    → leaves_onto (t ∷ ts) (d ∷ ds) low ≡ leaves_onto ts ds (whole (number_width t) n ∷ low)
+    → leaves_onto (t ∷ ts) (d ∷ ds) low ≡ leaves_onto ts ds (whole (width_of t) n ∷ low)
 one_onto t ts d ds n low k h =
     ap (λ (b : Bool). arguments_onto b (zip ts ds) (argument_onto t d low)) k.plain ∙ ap (leaves_onto ts ds) (h.onto low)
 
@@ -196,7 +195,7 @@ pub sizes_within : (ts : List TheArgType) (ds : List Datum) (ns : List ℕ) (low
 sizes_within [] [] [] low k numbers h few = omega (arith, few)
 sizes_within (t ∷ ts) (d ∷ ds) (n ∷ ns) low k numbers h few =
     let known = number_is t (first_so (is_number t) _ numbers) in
-    let rest = sizes_within ts ds ns (whole (number_width t) n ∷ low) (k + 1) (second_so (is_number t) _ numbers) h.1 (ends_within (size low) (number_width t) k known.align few) in
+    let rest = sizes_within ts ds ns (whole (width_of t) n ∷ low) (k + 1) (second_so (is_number t) _ numbers) h.1 (ends_within (size low) (width_of t) k known.align few) in
     let same = ap size (one_onto t ts d ds n low known h.0) in
     omega (arith, rest, same)
 sizes_within ts ds ns low k numbers h few = absurd h
@@ -207,7 +206,7 @@ word_within n w k align h small =
     let some = by_align (λ (v : ℕ). 0 < v) (omega arith) (omega arith) (omega arith) (omega arith) w align in
     omega (arith, end, some, small)
 
-bits_within : (t : TheArgType) (n : ℕ) → IsNumber t → n ≤ values_of t - 1 → n < 2 ^ (8 * number_width t)
+bits_within : (t : TheArgType) (n : ℕ) → IsNumber t → n ≤ how_many_values t - 1 → n < 2 ^ (8 * width_of t)
 bits_within t n k h = omega (arith, k.some, k.room, h)
 
 -- the words of values are those that their numbers fill
@@ -216,12 +215,12 @@ pub values_fill : (ts : List TheArgType) (ds : List Datum) (ns : List ℕ) (low 
 values_fill [] [] [] low k numbers h few room = refl
 values_fill (t ∷ ts) (d ∷ ds) (n ∷ ns) low k numbers h few room =
     let known = number_is t (first_so (is_number t) _ numbers) in
-    let w = number_width t in
+    let w = width_of t in
     let p = round_up (size low) w in
     let behind = places_behind (p + w) ts in
     let rest = values_fill ts ds ns (whole w n ∷ low) (k + 1) (second_so (is_number t) _ numbers) h.1 (ends_within (size low) w k known.align few) (omega (arith, room)) in
     let inside : k < 7 = omega (arith, room) in
-    ap (λ (b : Bool). cond b (filled behind ns (put (place_at p t) n (words_of low))) None) (le-leb n (values_of t - 1) h.0.few)
+    ap (λ (b : Bool). cond b (filled behind ns (put (place_at p t) n (words_of low))) None) (le-leb n (how_many_values t - 1) h.0.few)
     ∙ ap (filled behind ns) (put_leaf t low n known.align (bits_within t n known h.0.few) (word_within (size low) w k known.align few inside))
     ∙ rest ∙ ap (λ (ls : List Leaf). Some (words_of ls)) (sym (one_onto t ts d ds n low known h.0))
 values_fill ts ds ns low k numbers h few room = absurd h
@@ -232,21 +231,21 @@ pub values_taken : (ts : List TheArgType) (ds : List Datum) (ns : List ℕ) (low
 values_taken [] [] [] low k numbers h few room = refl
 values_taken (t ∷ ts) (d ∷ ds) (n ∷ ns) low k numbers h few room =
     let known = number_is t (first_so (is_number t) _ numbers) in
-    let w = number_width t in
+    let w = width_of t in
     let p = round_up (size low) w in
     let rest = values_taken ts ds ns (whole w n ∷ low) (k + 1) (second_so (is_number t) _ numbers) h.1 (ends_within (size low) w k known.align few) (omega (arith, room)) in
     let inside : k < 7 = omega (arith, room) in
     let same = ap (λ (ls : List Leaf). taken (places_behind (p + w) ts) (words_of ls)) (one_onto t ts d ds n low known h.0) in
-    ap (λ (o : Option Taken). given o None (taken_one (place_at p t))) (same ∙ rest)
+    ap (λ (o : Option Emptied). given o None (taken_one (place_at p t))) (same ∙ rest)
     ∙ taken_leaf t low n ns known.align (bits_within t n known h.0.few) h.0.few (word_within (size low) w k known.align few inside)
 values_taken ts ds ns low k numbers h few room = absurd h
 
 -- numbers that fill words at the places of types are those of values
-values_at : (t : TheArgType) (ts : List TheArgType) (n : ℕ) (ns vs : List ℕ) (rest : Option (List ℕ)) (b : Bool) → leb n (values_of t - 1) ≡ b → is_number t ≡ true
+values_at : (t : TheArgType) (ts : List TheArgType) (n : ℕ) (ns vs : List ℕ) (rest : Option (List ℕ)) (b : Bool) → leb n (how_many_values t - 1) ≡ b → is_number t ≡ true
     → (rest ≡ Some vs → (ds : List Datum) × AreValuesOf ts ds ns) → cond b rest None ≡ Some vs → (ds : List Datum) × AreValuesOf (t ∷ ts) ds (n ∷ ns)
 values_at t ts n ns vs rest false is known others e = absurd (cc)
 values_at t ts n ns vs rest true is known others e =
-    let (d, one) = value_there t n known (leb-true n (values_of t - 1) is) in
+    let (d, one) = value_there t n known (leb-true n (how_many_values t - 1) is) in
     let (ds, more) = others e in
     (d ∷ ds, (one, more))
 
@@ -255,7 +254,7 @@ values_there [] [] ws vs end numbers e = ([], tt)
 values_there [] (n ∷ ns) ws vs end numbers e = absurd (cc)
 values_there (t ∷ ts) [] ws vs end numbers e = absurd (cc)
 values_there (t ∷ ts) (n ∷ ns) ws vs end numbers e =
-    let p = round_up end (number_width t) in
-    values_at t ts n ns vs (filled (places_behind (p + number_width t) ts) ns (put (place_at p t) n ws)) (leb n (values_of t - 1)) refl (first_so (is_number t) _ numbers)
-    (λ (f : filled (places_behind (p + number_width t) ts) ns (put (place_at p t) n ws) ≡ Some vs).
-    values_there ts ns (put (place_at p t) n ws) vs (p + number_width t) (second_so (is_number t) _ numbers) f) e
+    let p = round_up end (width_of t) in
+    values_at t ts n ns vs (filled (places_behind (p + width_of t) ts) ns (put (place_at p t) n ws)) (leb n (how_many_values t - 1)) refl (first_so (is_number t) _ numbers)
+    (λ (f : filled (places_behind (p + width_of t) ts) ns (put (place_at p t) n ws) ≡ Some vs).
+    values_there ts ns (put (place_at p t) n ws) vs (p + width_of t) (second_so (is_number t) _ numbers) f) e

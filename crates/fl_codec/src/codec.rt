@@ -4,19 +4,18 @@ ghost use Rattle.std.specs.Prelude.{◌≡◌, ◌≤◌, true, map, slice_get};
 ghost use Rattle.std.specs.List.{list_all};
 ghost use Rattle.std.specs.Option.{option_map};
 ghost use Rattle.fl_interface.specs.Interface.{arg_type_of, message_of, interface_of};
-ghost use Rattle.fl_codec.specs.Places.{is_number};
+ghost use Rattle.fl_codec.specs.NumberPlaces.{is_number};
 ghost use Rattle.fl_codec.specs.Words.{is_inside};
 
 use crate::number::number_type;
 use crate::place::NumberPlace;
 use crate::placing::placing_of;
-use crate::words::{filled, numbers_in};
+use crate::words::{filled, numbers_filling};
 use fl_base::{Circuit, Frag, MsgNo, control};
 use fl_interface::{ArgType, Interface, Message};
 use fl_value_data::PlanNo;
-use fl_wire::is_line;
 
-// The most numbers that the calls of a message with a codec have.
+// The most numbers of a message that has a codec.
 const MOST_NUMBERS: usize = 7;
 
 /// The codec of a message: between the tape of a call and the call's only fragment.
@@ -28,6 +27,15 @@ pub struct Codec {
     places: [NumberPlace; 7],
     ghost few: { count ≤ 7 },
     ghost inside: { list_all is_inside places ≡ true },
+}
+
+/// The tape of a call: at most seven numbers.
+#[derive(Clone, Copy)]
+pub struct Numbers {
+    // It is the first of these.
+    numbers: [u64; 7],
+    count: usize,
+    ghost few: { count ≤ 7 },
 }
 
 // The message of a number; none where there is none.
@@ -50,9 +58,9 @@ fn are_numbers(arguments: &[ArgType]) -> bool
 }
 
 impl Codec {
-    ghost use Rattle.std.specs.Prelude.{◌≡◌, ℕ, false, take, slice_get, IfSome, IfNone};
+    ghost use Rattle.std.specs.Prelude.{◌≡◌, ℕ, false, slice_get, IfSome, IfNone};
     ghost use Rattle.fl_interface.specs.Interface.{TheInterface};
-    ghost use Rattle.fl_codec.specs.Places.{has_few_numbers};
+    ghost use Rattle.fl_codec.specs.NumberPlaces.{has_few_numbers};
     ghost use Rattle.fl_codec.specs.Codecs.{IsCodecOf, Encodes, Decodes};
 
     /// The codec of a message under a plan; none exactly where there is no such message, or where it has more than seven
@@ -81,7 +89,8 @@ impl Codec {
     }
 
     /// The only fragment, on a circuit, of the call of its message that has this tape, with epoch 0 and nothing told; none exactly
-    /// where no fitting call has it.
+    /// where no fitting call has it. The tape is in the plan's order, each number as its raw bits: -1 of an `int8` is 255, and a
+    /// number with bits above its type's is of no call.
     #[inline(always)]
     pub fn encode(&self, circuit: Circuit, tape: &[u64]) -> Option<Frag>
         ensures exact { (plan : PlanNo) (i : TheInterface) (msg : ℕ) → IsCodecOf plan i msg self.now → Encodes plan i circuit.0 msg tape.now result }
@@ -95,21 +104,33 @@ impl Codec {
         })
     }
 
-    /// The tape of the call of its message whose only fragment, on a circuit, this is, whatever its epoch and the count told: that
-    /// many first numbers; none exactly where it is that of no fitting call of the message.
+    /// The tape of the call of its message whose only fragment, on a circuit, this is, whatever its epoch and the count told; none
+    /// exactly where it is that of no fitting call of the message.
     #[inline(always)]
-    pub fn decode(&self, circuit: Circuit, frag: &Frag) -> Option<([u64; 7], usize)>
-        ensures exact { (plan : PlanNo) (i : TheInterface) (msg : ℕ) → IsCodecOf plan i msg self.now
-            → Decodes plan i circuit.0 msg frag.now (option_map (λ found. take found.1 found.0) result) }
+    pub fn decode(&self, circuit: Circuit, frag: &Frag) -> Option<Numbers>
+        ensures exact { (plan : PlanNo) (i : TheInterface) (msg : ℕ) → IsCodecOf plan i msg self.now → Decodes plan i circuit.0 msg frag.now result }
     {
         if frag.bare().control != control(true, self.msg, circuit) {
             return None;
         }
-        // It has seven words of 64 bits, which the proof knows then.
-        is_line(frag);
-        let Some(numbers) = numbers_in(&self.places[..self.count], &frag.words) else {
+        let Some(numbers) = numbers_filling(&self.places[..self.count], &frag.words) else {
             return None;
         };
-        Some((numbers, self.count))
+        Some(Numbers {
+            numbers,
+            count: self.count,
+        })
+    }
+}
+
+impl Numbers {
+    ghost use Rattle.fl_codec.specs.Codecs.{numbers_of};
+
+    /// The numbers.
+    #[inline(always)]
+    pub fn as_slice(&self) -> &[u64]
+        ensures numbers { result.now ≡ numbers_of self.now }
+    {
+        &self.numbers[..self.count]
     }
 }

@@ -4,7 +4,7 @@ ghost use Rattle.std.specs.Prelude.{◌≡◌, ◌+◌, ◌-◌, ◌^◌, ◌<�
 ghost use Rattle.fl_interface.specs.Interface.{arg_type_of, type_of, fixed};
 ghost use Rattle.fl_interface.specs.Sizes.{scalar_size};
 ghost use Rattle.fl_value_data.specs.Fits.{least_above, how_many_below};
-ghost use Rattle.fl_codec.specs.Places.{is_number};
+ghost use Rattle.fl_codec.specs.NumberPlaces.{is_number};
 ghost use Rattle.fl_codec.specs.Placing.{IsNumberType};
 
 use fl_interface::{ArgType, ENUM_SIZE, FixedType, Scalar};

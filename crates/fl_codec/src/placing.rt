@@ -4,8 +4,8 @@ ghost use Rattle.std.specs.Prelude.{◌≡◌, ◌+◌, ◌<◌, ◌≤◌, true
 ghost use Rattle.std.specs.List.{list_all};
 ghost use Rattle.fl_interface.specs.Interface.{arg_type_of, TheArgType};
 ghost use Rattle.fl_value_data.specs.Taken.{types_of_rank, planned_types};
-ghost use Rattle.fl_codec.specs.Places.{is_number, places_behind};
-ghost use Rattle.fl_codec.specs.Placing.{IsNumberType, IsPlacing, GoesOn};
+ghost use Rattle.fl_codec.specs.NumberPlaces.{is_number, places_behind};
+ghost use Rattle.fl_codec.specs.Placing.{IsNumberType, IsPlacing, Places};
 
 use crate::number::{NumberType, number_type};
 use crate::place::NumberPlace;
@@ -48,7 +48,7 @@ impl Placing {
         requires room { self.old.count < 7 }
         requires number { (t : TheArgType) × IsNumberType t number }
         ensures sound { IsPlacing self.new }
-        ensures goes_on { (t : TheArgType) (behind : List TheArgType) → IsNumberType t number → GoesOn self.old (t ∷ behind) self.new behind }
+        ensures goes_on { (t : TheArgType) (behind : List TheArgType) → IsNumberType t number → Places self.old (t ∷ behind) self.new behind }
     {
         let at = next_multiple(self.end, number.width as usize);
         self.places[self.count] = NumberPlace {
@@ -66,7 +66,7 @@ impl Placing {
         requires numbers { list_all is_number (map arg_type_of arguments.now) ≡ true }
         requires room { self.old.count + length (types_of_rank plan rank (map arg_type_of arguments.now)) ≤ 7 }
         ensures sound { IsPlacing self.new }
-        ensures goes_on { (behind : List TheArgType) → GoesOn self.old (types_of_rank plan rank (map arg_type_of arguments.now) ++ behind) self.new behind }
+        ensures goes_on { (behind : List TheArgType) → Places self.old (types_of_rank plan rank (map arg_type_of arguments.now) ++ behind) self.new behind }
     {
         for argument in arguments {
             if plan.rank_of(argument) != rank {

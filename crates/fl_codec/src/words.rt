@@ -3,7 +3,7 @@
 ghost use Rattle.std.specs.Prelude.{◌≡◌, ◌≤◌, ◌==◌, true, length, take, replicate};
 ghost use Rattle.std.specs.List.{list_all};
 ghost use Rattle.std.specs.Option.{option_map};
-ghost use Rattle.fl_codec.specs.Words.{is_inside, filled, numbers_in};
+ghost use Rattle.fl_codec.specs.Words.{is_inside, filled, numbers_filling, AreWords};
 
 use crate::place::NumberPlace;
 
@@ -36,16 +36,18 @@ fn is_blank(words: &[u64; 7]) -> bool
     words.iter().all(|word| *word == 0)
 }
 
-/// The numbers at these places, of which the words are filled; none where they are of none.
+/// The numbers at these places that fill the words, with zeros elsewhere; none where no numbers do.
 #[inline(always)]
-pub(crate) fn numbers_in(places: &[NumberPlace], words: &[u64; 7]) -> Option<[u64; 7]>
+pub(crate) fn numbers_filling(places: &[NumberPlace], words: &[u64; 7]) -> Option<[u64; 7]>
     requires inside { list_all is_inside places.now ≡ true }
     requires few { length places.now ≤ 7 }
-    ensures exact { option_map (take (length places.now)) result ≡ numbers_in places.now words.now }
+    ensures exact { option_map (take (length places.now)) result ≡ numbers_filling places.now words.now }
+    ensures words { AreWords words.now }
 {
     let mut left = *words;
     let mut numbers = [0; 7];
-    // From the last place on: what stands above a number in its word is gone then, or is no zero.
+    // From the last place on: what stands above a number in its word is taken by then, and padding that isn't 0 makes the number
+    // too great.
     for index in (0..places.len()).rev() {
         let place = places[index];
         let word = usize::from(place.word);

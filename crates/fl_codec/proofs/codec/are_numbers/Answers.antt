@@ -3,7 +3,7 @@ use Rattle.std.specs.List.{list_all}
 use Rattle.std.proofs.lemmas.List.{drop_all}
 use Rattle.fl_interface.specs.declared.interface.ArgType.{ArgType}
 use Rattle.fl_interface.specs.Interface.{arg_type_of}
-use Rattle.fl_codec.specs.Places.{is_number}
+use Rattle.fl_codec.specs.NumberPlaces.{is_number}
 use Rattle.fl_codec.proofs.Kept.{all_from}
 use Rattle.fl_codec.proofs.codec.are_numbers.Goals as goal
 

@@ -4,7 +4,7 @@ use Rattle.std.proofs.lemmas.List.{length-map}
 use Rattle.fl_interface.specs.declared.interface.ArgType.{ArgType}
 use Rattle.fl_interface.specs.Interface.{arg_type_of, message_of, interface_of}
 use Rattle.fl_value_data.specs.Taken.{planned_types}
-use Rattle.fl_codec.specs.Places.{is_number, places_behind}
+use Rattle.fl_codec.specs.NumberPlaces.{is_number, places_behind}
 use Rattle.fl_codec.proofs.Made.{codec_made}
 use Rattle.fl_codec.proofs.codec.Codec.of.Goals as goal
 

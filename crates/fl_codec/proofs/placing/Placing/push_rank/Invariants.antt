@@ -1,6 +1,6 @@
 use Rattle.std.proofs.Common.{◌++◌, List}
 use Rattle.fl_interface.specs.Interface.{TheArgType}
-use Rattle.fl_codec.specs.Placing.{IsPlacing, GoesOn}
+use Rattle.fl_codec.specs.Placing.{IsPlacing, Places}
 use Rattle.fl_codec.proofs.Kept.{left}
 use Rattle.fl_codec.proofs.placing.Placing.push_rank.Given as goal
 
@@ -8,4 +8,4 @@ use Rattle.fl_codec.proofs.placing.Placing.push_rank.Given as goal
 abbrev pub invariant-loop-argument : goal.invariant-loop-argument
 invariant-loop-argument l =
     IsPlacing l.self
-    × ((behind : List TheArgType) → GoesOn l.fn.self (left l.plan l.rank l.arguments 0 ++ behind) l.self (left l.plan l.rank l.arguments l.argument-index ++ behind))
+    × ((behind : List TheArgType) → Places l.fn.self (left l.plan l.rank l.arguments 0 ++ behind) l.self (left l.plan l.rank l.arguments l.argument-index ++ behind))

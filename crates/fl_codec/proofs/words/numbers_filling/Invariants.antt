@@ -1,6 +1,6 @@
 use Rattle.std.proofs.Common.{◌≡◌, drop, take, length, Some}
 use Rattle.fl_codec.specs.Words.{taken}
-use Rattle.fl_codec.proofs.words.numbers_in.Given as goal
+use Rattle.fl_codec.proofs.words.numbers_filling.Given as goal
 
 -- what the places from here on gave
 abbrev pub invariant-loop-index : goal.invariant-loop-index

@@ -16,11 +16,10 @@ use Rattle.fl_interface.proofs.Aligned.{by_align}
 use Rattle.fl_layout.specs.Leaves.{Leaf, whole}
 use Rattle.fl_layout.specs.Places.{size, place}
 use Rattle.fl_wire.specs.Payload.{payload_at, payload_bytes, word}
-use Rattle.fl_wire.specs.Widths.{number_width}
 use Rattle.fl_wire.proofs.Bytes.{size_le_place, below_place, at_place, past_end}
 use Rattle.fl_wire.proofs.Readings.{window_of, window_at, byte_of_payload, payload_small}
-use Rattle.fl_codec.specs.Places.{values_of, place_at}
-use Rattle.fl_codec.specs.Words.{put, found, without, Taken, taken_one}
+use Rattle.fl_codec.specs.NumberPlaces.{how_many_values, width_of, place_at}
+use Rattle.fl_codec.specs.Words.{put, from_place_on, without, Emptied, taken_one}
 use Rattle.fl_codec.proofs.Sums.{low, low_ext, low_none, low_split, low_below, low_of, word_is}
 
 -- ---- words by bytes
@@ -139,10 +138,10 @@ one_differs us vs q x lu lv inside here others =
     (cases_lt k q))
 
 -- putting a number at its place makes the words those of its leaf too
-pub put_leaf : (t : TheArgType) (ls : List Leaf) (v : ℕ) → IsAlign (number_width t) → v < 2 ^ (8 * number_width t) → round_up (size ls) (number_width t) / 8 < 7
-    → put (place_at (round_up (size ls) (number_width t)) t) v (words_of ls) ≡ words_of (whole (number_width t) v ∷ ls)
+pub put_leaf : (t : TheArgType) (ls : List Leaf) (v : ℕ) → IsAlign (width_of t) → v < 2 ^ (8 * width_of t) → round_up (size ls) (width_of t) / 8 < 7
+    → put (place_at (round_up (size ls) (width_of t)) t) v (words_of ls) ≡ words_of (whole (width_of t) v ∷ ls)
 put_leaf t ls v align small inside =
-    let w = number_width t in
+    let w = width_of t in
     let p = round_up (size ls) w in
     let q = p / 8 in
     let high = no_bit_lost p w v (in_word (size ls) w align) small in
@@ -153,23 +152,23 @@ put_leaf t ls v align small inside =
     (λ k h other. word_at ls k h ∙ sym (other_word ls w v k align other) ∙ sym (word_at (whole w v ∷ ls) k h))
 
 -- and taking it from there makes them what they were
-pub taken_leaf : (t : TheArgType) (ls : List Leaf) (v : ℕ) (ns : List ℕ) → IsAlign (number_width t) → v < 2 ^ (8 * number_width t) → v ≤ values_of t - 1 → round_up (size ls) (number_width t) / 8 < 7
-    → taken_one (place_at (round_up (size ls) (number_width t)) t) (record { numbers = ns; left = words_of (whole (number_width t) v ∷ ls) })
+pub taken_leaf : (t : TheArgType) (ls : List Leaf) (v : ℕ) (ns : List ℕ) → IsAlign (width_of t) → v < 2 ^ (8 * width_of t) → v ≤ how_many_values t - 1 → round_up (size ls) (width_of t) / 8 < 7
+    → taken_one (place_at (round_up (size ls) (width_of t)) t) (record { numbers = ns; left = words_of (whole (width_of t) v ∷ ls) })
     ≡ Some (record { numbers = v ∷ ns; left = words_of ls })
 taken_leaf t ls v ns align small few inside =
-    let w = number_width t in
+    let w = width_of t in
     let p = round_up (size ls) w in
     let q = p / 8 in
     let s = 8 * (p % 8) in
     let ws = words_of (whole w v ∷ ls) in
     let is : get_or ws q 0 ≡ v * 2 ^ s + word (payload_bytes ls) q = word_at (whole w v ∷ ls) q inside ∙ own_is ls w v align small in
-    let number : found (place_at p t) ws ≡ v = ap (λ (n : ℕ). n / 2 ^ s) is ∙ div-mul-add v (2 ^ s) (word (payload_bytes ls) q) (below_is ls w) in
+    let number : from_place_on (place_at p t) ws ≡ v = ap (λ (n : ℕ). n / 2 ^ s) is ∙ div-mul-add v (2 ^ s) (word (payload_bytes ls) q) (below_is ls w) in
     let high : v * 2 ^ s % 2 ^ 64 ≡ v * 2 ^ s = no_bit_lost p w v (in_word (size ls) w align) small in
-    let rest : get_or ws q 0 - found (place_at p t) ws * 2 ^ s % 2 ^ 64 ≡ get_or (words_of ls) q 0
+    let rest : get_or ws q 0 - from_place_on (place_at p t) ws * 2 ^ s % 2 ^ 64 ≡ get_or (words_of ls) q 0
     = ap (λ (n : ℕ). get_or ws q 0 - n * 2 ^ s % 2 ^ 64) number ∙ omega (arith, is, high) ∙ sym (word_at ls q inside) in
     let left : without (place_at p t) ws ≡ words_of ls
     = one_differs ws (words_of ls) q _ (long (whole w v ∷ ls)) (long ls) inside rest
     (λ k h other. word_at (whole w v ∷ ls) k h ∙ other_word ls w v k align other ∙ sym (word_at ls k h)) in
-    let made : List ℕ → List ℕ → Taken = λ xs ys. record { numbers = xs; left = ys } in
-    rw (le-leb (found (place_at p t) ws) (values_of t - 1) (subst (λ (n : ℕ). n ≤ values_of t - 1) (sym number) few))
+    let made : List ℕ → List ℕ → Emptied = λ xs ys. record { numbers = xs; left = ys } in
+    rw (le-leb (from_place_on (place_at p t) ws) (how_many_values t - 1) (subst (λ (n : ℕ). n ≤ how_many_values t - 1) (sym number) few))
     (ap (λ (n : ℕ). Some (made (n ∷ ns) (without (place_at p t) ws))) number ∙ ap (λ (ys : List ℕ). Some (made (v ∷ ns) ys)) left)
