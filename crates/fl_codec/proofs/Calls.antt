@@ -318,7 +318,7 @@ taken_same : (plan : PlanNo) (i : TheInterface) (circuit msg : ℕ) (x : IsFew i
 taken_same plan i circuit msg x s t f g a b e =
     let us = types_in plan i msg x in
     let from = λ (ns : List ℕ) (h : Frag) (k : IsFilledBy plan i circuit msg x ns h).
-        ap (taken (places_behind 0 us)) k.words_are ∙ values_taken us k.ds ns [] 0 (types_number plan i msg x) k.are (omega arith) (omega (arith, types_few plan i msg x)) in
+    ap (taken (places_behind 0 us)) k.words_are ∙ values_taken us k.ds ns [] 0 (types_number plan i msg x) k.are (omega arith) (omega (arith, types_few plan i msg x)) in
     numbers_told _ _ (sym (from s f a) ∙ ap (λ (h : Frag). taken (places_behind 0 us) h.words) e ∙ from t g b)
 
 pub one_tape_one_frag : OneTapeOneFrag
