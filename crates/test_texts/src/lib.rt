@@ -3,7 +3,7 @@
 //!
 //! - `rows.rt`: tables, of which a test tells the first row that isn't so; `interfaces.rt`: interfaces made from their texts
 //! - `text.rt`: `fl_lex`, `fl_parse` and `fl_check`
-//! - `wire.rt`: `fl_value`, `fl_layout` and `fl_wire`
+//! - `wire.rt`: `fl_value`, `fl_layout`, `fl_wire` and `fl_codec`
 //! - `stub.rt`: `fl_stub`, `fl_compile` and `fl_machine`
 //! - `image.rt`: `fl_image`
 //! - `show.rt`: `flounder_show`
