@@ -7,7 +7,6 @@ use Rattle.std.proofs.lemmas.Bool.{eqb-true, ne_eqb}
 use Rattle.fl_base.specs.declared.fragment.Frag.{Frag}
 use Rattle.fl_value_data.specs.Value.{TheCall, call_of}
 use Rattle.fl_value_data.specs.Fits.{fits_of}
-use Rattle.fl_wire.specs.Payload.{frags_on}
 use Rattle.fl_link.specs.Looks.{Look}
 use Rattle.fl_machine.specs.Reassembling.{TheReassembly}
 use Rattle.fl_compile.specs.Programs.{program_of}
@@ -15,7 +14,7 @@ use Rattle.fl_endpoint.specs.declared.answer.ReceiveAnswer.{ReceiveAnswer}
 use Rattle.fl_endpoint.specs.declared.answer.ReceiveAnswer.TheVariants.{Handle, Part, Quiet, Empty, HeldBack}
 use Rattle.fl_endpoint.specs.declared.fault.EndFault.{EndFault}
 use Rattle.fl_endpoint.specs.declared.fault.EndFault.TheVariants.{Spent, Busy, UnknownMessage, Misfit, NotBound, Failed, Wire, Memory}
-use Rattle.fl_endpoint.specs.View.{TheOutgoing, TheEnd, number_or_0, interface_in, plan_in, frags_from, has_rules, rule_at, reply_to, holds_back, are_some, begun, goes_on, queued_behind, queued, queued_if, with_handled, with_parts}
+use Rattle.fl_endpoint.specs.View.{TheOutgoing, TheEnd, interface_in, frags_from, has_rules, rule_at, reply_to, holds_back, are_some, begun, goes_on, queued_behind, queued, queued_if, with_handled, with_parts}
 use Rattle.fl_endpoint.specs.Events.{IsReady, IsOpen, AreCall, Calls, Receives, SetsRule}
 use Rattle.fl_endpoint.specs.Lent.{IsOf, IsPlaceOf, receipt, ReceivesAt}
 use Rattle.fl_endpoint.specs.Accounts.{Sound}

@@ -1,4 +1,4 @@
-use Rattle.std.proofs.Common.{◌≡◌, ◌+◌, ℕ, suc, length, take, List, ap, ◌∙◌, refl, rules, arith}
+use Rattle.std.proofs.Common.{◌≡◌, ◌+◌, ℕ, suc, length, take, List, ap, refl, rules, arith}
 use Rattle.fl_c_operations.proofs.unread.put_short.Goals as goal
 
 one_more : (xs ys : List ℕ) → xs ≡ ys → length xs + 1 ≡ suc (length ys)

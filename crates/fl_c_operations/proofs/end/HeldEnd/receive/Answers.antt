@@ -1,4 +1,4 @@
-use Rattle.std.proofs.Common.{◌≡◌, Option, Some, None, Err, inl, inr, refl, sym, ap, subst, ◌∙◌}
+use Rattle.std.proofs.Common.{◌≡◌, Option, Err, inl, inr, refl, sym, ap, subst, ◌∙◌}
 use Rattle.std.specs.Prelude.{IsSome}
 use Rattle.fl_c_operations.specs.declared.unread.UnreadCall.{UnreadCall}
 use Rattle.fl_c_operations.specs.declared.answer.UseFault.TheVariants.{Unread}

@@ -1,4 +1,4 @@
-use Rattle.std.proofs.Common.{◌≡◌, true, Ok, None, Some, Option, Result, refl, sym, ap, subst, ◌∙◌}
+use Rattle.std.proofs.Common.{◌≡◌, Ok, Some, Result, refl, sym, ap, subst, ◌∙◌}
 use Rattle.fl_ring.specs.SharedSides.{SharedTakes}
 use Rattle.fl_endpoint.specs.declared.answer.ReceiveAnswer.TheVariants.{Quiet, Empty}
 use Rattle.fl_c_operations.specs.declared.answer.Outcome.{Outcome}
@@ -8,7 +8,7 @@ use Rattle.fl_c_operations.specs.declared.unread.UnreadCall.TheVariants.{Short}
 use Rattle.fl_c_operations.specs.View.{TheHeld, handled_by}
 use Rattle.fl_c_operations.specs.Ends.{ReceivesNext}
 use Rattle.fl_c_operations.proofs.Sent.{receives_kept}
-use Rattle.fl_c_operations.proofs.Receives.{received_next, none_left, short_next}
+use Rattle.fl_c_operations.proofs.Receives.{received_next, short_next}
 use Rattle.fl_c_operations.proofs.end.HeldEnd.receive_next.Goals as goal
 
 pub returns-in-Nothing : goal.returns-in-Nothing
