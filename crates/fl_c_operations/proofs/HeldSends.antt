@@ -8,7 +8,7 @@ use Rattle.fl_ring.specs.contracts.shared.duo_sides.SharedSide
 use Rattle.fl_endpoint.specs.View.{TheEnd}
 use Rattle.fl_c_operations.specs.Seen.{TheLooked}
 use Rattle.fl_c_operations.specs.View.{TheHeld}
-use Rattle.fl_c_operations.specs.contracts.kept.KeptCall
+use Rattle.fl_c_operations.specs.contracts.unread.UnreadCall
 use Rattle.fl_c_operations.specs.declared.looked.LookedSide as LookedCode
 use Rattle.fl_c_operations.specs.contracts.looked.LookedSide as Looked
 use Rattle.fl_c_operations.specs.contracts.looked.LookedSide.TheInside as LookedInside
@@ -33,7 +33,7 @@ looked_inside side = recorded_send (LookedInside.the_field).row _ _ (LookedInsid
 pub looked_sends : IsSend SharedSide.the_row → IsSend Looked.the_row
 looked_sends side = view_send LookedInside.the_row TheLooked LookedCode.the_code Looked.the_view Looked.the_invariant (looked_inside side)
 
-held_inside : IsSend Transmitting.the_row → IsSend Looked.the_row → IsSend Reassemblies.the_row → IsSend KeptCall.the_row → IsSend HeldInside.the_row
+held_inside : IsSend Transmitting.the_row → IsSend Looked.the_row → IsSend Reassemblies.the_row → IsSend UnreadCall.the_row → IsSend HeldInside.the_row
 held_inside end side calls call = recorded_send (HeldInside.the_field).row _ _ (HeldInside.the_type).to_one
     (struct_send (shape HeldInside.the_type) (
       search (sendable, crosses) depth 20,
@@ -52,5 +52,5 @@ held_inside end side calls call = recorded_send (HeldInside.the_field).row _ _ (
       ),
     ))
 
-pub held_sends : IsSend Transmitting.the_row → IsSend Looked.the_row → IsSend Reassemblies.the_row → IsSend KeptCall.the_row → IsSend Held.the_row
+pub held_sends : IsSend Transmitting.the_row → IsSend Looked.the_row → IsSend Reassemblies.the_row → IsSend UnreadCall.the_row → IsSend Held.the_row
 held_sends end side calls call = view_send HeldInside.the_row TheHeld HeldCode.the_code Held.the_view Held.the_invariant (held_inside end side calls call)

@@ -1,5 +1,5 @@
 -- A receive by a side that has seen what stands first is a receive by that side, which looks once.
-use Rattle.std.proofs.Common.{◌≡◌, true, false, Option, Some, None, Result, Ok, Err, refl, sym, ap, subst, ◌∙◌, ℕ, List}
+use Rattle.std.proofs.Common.{◌≡◌, Option, Some, None, Result, Ok, Err, refl, sym, ap, subst, ◌∙◌, ℕ, List}
 use Rattle.std.specs.Prelude.{IsSome}
 use Rattle.std.proofs.lemmas.Bool.{false≢true}
 use Rattle.fl_base.specs.declared.fragment.Frag.{Frag}
@@ -14,7 +14,7 @@ use Rattle.fl_endpoint.specs.declared.fault.EndFault.TheVariants.{Spent, Busy, U
 use Rattle.fl_endpoint.specs.View.{TheEnd, with_parts}
 use Rattle.fl_endpoint.specs.Events.{IsOpen, Receives}
 use Rattle.fl_endpoint.specs.Lent.{receipt, ReceivesAt}
-use Rattle.fl_c_operations.specs.Seen.{SeenTakes, IsLent}
+use Rattle.fl_c_operations.specs.Seen.{SeenTakes, IsAfterLook}
 
 not_none : {A : Type 0} (o : Option A) → IsSome o → o ≡ None → ⊥
 not_none None some e = absurd cc
@@ -103,9 +103,9 @@ module _ {T : Type 0} (takes : T → Look → T → Type 0) (side : T → TheSid
       kept = λ closed. absurd (closed opened);
     }
 
-    lent_by : (s : TheEnd) (o : Option Frag) → seen a ≡ o → IsLent s p o (side a) → GoesOver takes side a b p s
+    lent_by : (s : TheEnd) (o : Option Frag) → seen a ≡ o → IsAfterLook s p o (side a) → GoesOver takes side a b p s
     lent_by s None e h = unseen_over s e h
     lent_by s (Some frag) e h = seen_over s frag h.0 e h.1
 
-    pub lent_over : (s : TheEnd) → IsLent s p (seen a) (side a) → GoesOver takes side a b p s
+    pub lent_over : (s : TheEnd) → IsAfterLook s p (seen a) (side a) → GoesOver takes side a b p s
     lent_over s h = lent_by s (seen a) refl h

@@ -1,6 +1,6 @@
 -- A call that an end handled stays to be read: as it came, or as its numbers.
-use Rattle.std.proofs.Common.{◌≡◌, ℕ, zero, suc, true, List, [], ◌∷◌, ◌++◌, map, length, Option, Some, None, Result, Ok, Err, refl, sym, ap, subst, ◌∙◌, arith}
-use Rattle.std.specs.Prelude.{slice_get, slice_set, drop, ◌+◌, IsSome, IsSomeAnd}
+use Rattle.std.proofs.Common.{◌≡◌, ℕ, List, [], ◌∷◌, ◌++◌, map, length, Option, Some, None, Result, Ok, Err, refl, sym, ap, subst, ◌∙◌, arith}
+use Rattle.std.specs.Prelude.{slice_get, slice_set, ◌+◌, IsSome}
 use Rattle.std.specs.Option.{option_map}
 use Rattle.fl_base.specs.declared.fragment.Frag.{Frag}
 use Rattle.fl_base.specs.Control.{bare, body}
@@ -11,7 +11,6 @@ use Rattle.fl_value_data.specs.Value.{TheCall, call_of}
 use Rattle.fl_value_data.specs.Tape.{tape_of}
 use Rattle.fl_wire.specs.Payload.{frags_of}
 use Rattle.fl_wire.specs.Reading.{OneReading}
-use Rattle.fl_wire.specs.Words.{interface_words_fit}
 use Rattle.fl_compile.specs.declared.program.Program.{Program}
 use Rattle.fl_compile.specs.Programs.{TheProgram, program_of}
 use Rattle.fl_machine.specs.Reassembling.{TheReassembly}
@@ -19,7 +18,7 @@ use Rattle.fl_endpoint.specs.declared.answer.ReceiveAnswer.{ReceiveAnswer}
 use Rattle.fl_endpoint.specs.declared.answer.ReceiveAnswer.TheVariants.{Handle, Part, Quiet, Empty, HeldBack}
 use Rattle.fl_endpoint.specs.declared.fault.EndFault.{EndFault}
 use Rattle.fl_endpoint.specs.declared.fault.EndFault.TheVariants.{Spent, Busy, UnknownMessage, Misfit, NotBound, Failed, Wire, Memory}
-use Rattle.fl_endpoint.specs.View.{TheEnd, interface_in, plan_in, frags_from, rule_at, queued_if, with_parts, with_handled}
+use Rattle.fl_endpoint.specs.View.{TheEnd, frags_from, rule_at, queued_if, with_parts, with_handled}
 use Rattle.fl_endpoint.specs.Events.{IsOpen, AreCall, Receives}
 use Rattle.fl_endpoint.specs.Lent.{IsOf, IsPlaceOf, receipt, ReceivesAt}
 use Rattle.fl_c_operations.proofs.Sent.{are_call, set_same, standing}
@@ -27,10 +26,10 @@ use Rattle.fl_c_operations.specs.declared.answer.UseFault.{UseFault}
 use Rattle.fl_c_operations.specs.declared.answer.UseFault.TheVariants.{NoSuchOperation, WrongRoom, ShortRoom, Unread, OnlyAcknowledges, Link, End}
 use Rattle.fl_c_operations.specs.declared.answer.Outcome.TheVariants.{Handled}
 use Rattle.fl_c_operations.specs.Calls.{PutsCall, numbers_of_call, PutsNumbers}
-use Rattle.fl_c_operations.specs.declared.kept.KeptCall.{KeptCall}
+use Rattle.fl_c_operations.specs.declared.unread.UnreadCall.{UnreadCall}
 use Rattle.fl_c_operations.specs.Transmissions.{IsShortAt}
 use Rattle.fl_c_operations.specs.View.{TheHeld, program_of_held, handled_by, IsBetween}
-use Rattle.fl_c_operations.specs.Ends.{received_as, kept_in, ReceivesNext}
+use Rattle.fl_c_operations.specs.Ends.{received_as, unread_in, ReceivesNext}
 
 set_first : {X : Type 0} (xs : List X) (x y r : X) → slice_get xs 0 ≡ Some x → slice_get (slice_set xs 0 y) 0 ≡ Some r → r ≡ y
 set_first [] x y r e h = absurd (cc)
@@ -46,8 +45,8 @@ bare_twice f =
 after_call : (s t : TheEnd) (p q : TheSide) (call : Call) → Receives SharedTakes s p (Ok (Handle call)) t q → (t.program ≡ s.program) × (t.parts ≡ [])
 after_call s t p q call (opened, (f, m, is, sees, gets, (are, t_is))) = (ap (λ (x : TheEnd). x.program) t_is, ap (λ (x : TheEnd). x.parts) t_is)
 
-pub received_next : (h t : TheHeld) (answer : Result ReceiveAnswer EndFault) (kept : Option KeptCall) → ReceivesAt SharedTakes (receipt h.end h.side answer t.end t.side) h.calls 0 t.calls
-    → kept ≡ kept_in answer → t.handled ≡ handled_by t.end.program kept → ReceivesNext h (received_as answer) t
+pub received_next : (h t : TheHeld) (answer : Result ReceiveAnswer EndFault) (kept : Option UnreadCall) → ReceivesAt SharedTakes (receipt h.end h.side answer t.end t.side) h.calls 0 t.calls
+    → kept ≡ unread_in answer → t.handled ≡ handled_by t.end.program kept → ReceivesNext h (received_as answer) t
 received_next h t (Ok (Handle call)) kept r is handled =
     let after = after_call (with_parts h.end r.was.parts) (with_parts t.end r.is.parts) h.side t.side call r.event.receives in (
       call_of call,
@@ -67,7 +66,7 @@ received_next h t (Ok HeldBack) kept r is handled = (Ok HeldBack, r, refl, handl
 received_next h t (Err fault) kept r is handled = (Err fault, r, refl, handled ∙ ap (handled_by t.end.program) is)
 
 -- nothing is left of a call that was handled
-between_calls : (s t : TheEnd) (p q : TheSide) (calls after : List TheReassembly) (answer : Result ReceiveAnswer EndFault) (kept : KeptCall) → Some kept ≡ kept_in answer
+between_calls : (s t : TheEnd) (p q : TheSide) (calls after : List TheReassembly) (answer : Result ReceiveAnswer EndFault) (kept : UnreadCall) → Some kept ≡ unread_in answer
     → ReceivesAt SharedTakes (receipt s p answer t q) calls 0 after → IsBetween after
 between_calls s t p q calls after (Ok (Handle got)) kept e h = λ r there.
     let same = set_first calls h.was h.is r h.was_there (ap (λ (xs : List TheReassembly). slice_get xs 0) (sym h.after_is) ∙ there) in
@@ -78,7 +77,7 @@ between_calls s t p q calls after (Ok Empty) kept e h = absurd (cc)
 between_calls s t p q calls after (Ok HeldBack) kept e h = absurd (cc)
 between_calls s t p q calls after (Err fault) kept e h = absurd (cc)
 
-pub none_left : (s t : TheEnd) (p q : TheSide) (calls after : List TheReassembly) (answer : Result ReceiveAnswer EndFault) (kept : Option KeptCall) → kept ≡ kept_in answer → IsSome kept
+pub none_left : (s t : TheEnd) (p q : TheSide) (calls after : List TheReassembly) (answer : Result ReceiveAnswer EndFault) (kept : Option UnreadCall) → kept ≡ unread_in answer → IsSome kept
     → ReceivesAt SharedTakes (receipt s p answer t q) calls 0 after → IsBetween after
 none_left s t p q calls after answer None is some h = absurd cc
 none_left s t p q calls after answer (Some kept) is some h = between_calls s t p q calls after answer kept is h

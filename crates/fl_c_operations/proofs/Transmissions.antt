@@ -7,7 +7,6 @@ use Rattle.std.proofs.lemmas.Bool.{eqb-true, ne_eqb}
 use Rattle.fl_base.specs.declared.fragment.Frag.{Frag}
 use Rattle.fl_value_data.specs.Value.{TheCall, call_of}
 use Rattle.fl_value_data.specs.Fits.{fits_of}
-use Rattle.fl_wire.specs.Payload.{frags_on}
 use Rattle.fl_link.specs.Looks.{Look}
 use Rattle.fl_machine.specs.Reassembling.{TheReassembly}
 use Rattle.fl_compile.specs.Programs.{program_of}
@@ -15,13 +14,13 @@ use Rattle.fl_endpoint.specs.declared.answer.ReceiveAnswer.{ReceiveAnswer}
 use Rattle.fl_endpoint.specs.declared.answer.ReceiveAnswer.TheVariants.{Handle, Part, Quiet, Empty, HeldBack}
 use Rattle.fl_endpoint.specs.declared.fault.EndFault.{EndFault}
 use Rattle.fl_endpoint.specs.declared.fault.EndFault.TheVariants.{Spent, Busy, UnknownMessage, Misfit, NotBound, Failed, Wire, Memory}
-use Rattle.fl_endpoint.specs.View.{TheOutgoing, TheEnd, number_or_0, interface_in, plan_in, frags_from, has_rules, rule_at, reply_to, holds_back, are_some, begun, goes_on, queued_behind, queued, queued_if, with_handled, with_parts}
+use Rattle.fl_endpoint.specs.View.{TheOutgoing, TheEnd, interface_in, frags_from, has_rules, rule_at, reply_to, holds_back, are_some, begun, goes_on, queued_behind, queued, queued_if, with_handled, with_parts}
 use Rattle.fl_endpoint.specs.Events.{IsReady, IsOpen, AreCall, Calls, Receives, SetsRule}
 use Rattle.fl_endpoint.specs.Lent.{IsOf, IsPlaceOf, receipt, ReceivesAt}
 use Rattle.fl_endpoint.specs.Accounts.{Sound}
 use Rattle.fl_endpoint.specs.Stored.{IsOwn}
 use Rattle.fl_c_operations.proofs.Sent.{some_frags, idle_end, has_room}
-use Rattle.fl_c_operations.specs.Transmissions.{calls_left, all_of, with_outgoing, transmitting_frag, transmitting, Transmits, TransmitsIfSome, holds_all, IsFragFrom, IsShortAt}
+use Rattle.fl_c_operations.specs.Transmissions.{calls_left, all_of, with_outgoing, transmitting_frag, transmitting, Transmits, MayTransmit, holds_all, IsFragFrom, IsShortAt}
 
 -- ---- what is to be sent
 
@@ -91,7 +90,7 @@ transmits_kept f s t c o h = record {
   few = subst (λ (x : TheOutgoing). length (all_of x) ≤ 16) (sym o) h.few;
 }
 
-pub transmits_still : (p : Option Frag) (s t : TheEnd) → t.circuit ≡ s.circuit → t.outgoing ≡ s.outgoing → TransmitsIfSome p s → TransmitsIfSome p t
+pub transmits_still : (p : Option Frag) (s t : TheEnd) → t.circuit ≡ s.circuit → t.outgoing ≡ s.outgoing → MayTransmit p s → MayTransmit p t
 transmits_still None s t c o h = tt
 transmits_still (Some f) s t c o h = transmits_kept f s t c o h
 
@@ -283,14 +282,14 @@ none_is p s e = ap (λ (q : Option Frag). transmitting q s) (sym e)
 pub some_is : (p : Option Frag) (f : Frag) (s : TheEnd) → p ≡ Some f → transmitting_frag f s ≡ transmitting p s
 some_is p f s e = ap (λ (q : Option Frag). transmitting q s) (sym e)
 
-pub transmits_is : (p : Option Frag) (f : Frag) (s : TheEnd) → p ≡ Some f → TransmitsIfSome p s → Transmits f s
-transmits_is p f s e h = subst (λ (q : Option Frag). TransmitsIfSome q s) e h
+pub transmits_is : (p : Option Frag) (f : Frag) (s : TheEnd) → p ≡ Some f → MayTransmit p s → Transmits f s
+transmits_is p f s e h = subst (λ (q : Option Frag). MayTransmit q s) e h
 
-pub transmits_at : (p : Option Frag) (f : Frag) (s : TheEnd) → p ≡ Some f → Transmits f s → TransmitsIfSome p s
-transmits_at p f s e h = subst (λ (q : Option Frag). TransmitsIfSome q s) (sym e) h
+pub transmits_at : (p : Option Frag) (f : Frag) (s : TheEnd) → p ≡ Some f → Transmits f s → MayTransmit p s
+transmits_at p f s e h = subst (λ (q : Option Frag). MayTransmit q s) (sym e) h
 
-pub transmits_none : (p : Option Frag) (s : TheEnd) → p ≡ None → TransmitsIfSome p s
-transmits_none p s e = subst (λ (q : Option Frag). TransmitsIfSome q s) (sym e) tt
+pub transmits_none : (p : Option Frag) (s : TheEnd) → p ≡ None → MayTransmit p s
+transmits_none p s e = subst (λ (q : Option Frag). MayTransmit q s) (sym e) tt
 
 -- ---- an end that takes fragments
 

@@ -12,7 +12,7 @@ use Rattle.fl_endpoint.specs.declared.answer.WriteAnswer.TheVariants.{Written, F
 use Rattle.fl_endpoint.specs.declared.answer.ReceiveAnswer.{ReceiveAnswer}
 use Rattle.fl_endpoint.specs.declared.answer.ReceiveAnswer.TheVariants.{Handle, Part, Quiet, Empty, HeldBack}
 use Rattle.fl_endpoint.specs.View.{TheEnd, is_busy, with_parts, with_handled}
-use Rattle.fl_endpoint.specs.Events.{IsOpen, AreCall as AreFrags, Calls, Writes, SetsRule}
+use Rattle.fl_endpoint.specs.Events.{IsOpen, AreCall as AreCallsFrags, Calls, Writes, SetsRule}
 use Rattle.fl_endpoint.specs.Lent.{IsOf, receipt, ReceivesAt}
 use Rattle.fl_c_operations.specs.declared.operation.Operation.{Operation}
 use Rattle.fl_c_operations.specs.declared.operation.Operation.TheVariants.{Tell, Call as ToCall, Write, Receive, Read, Rule, Busy as AskBusy}
@@ -22,8 +22,8 @@ use Rattle.fl_c_operations.specs.declared.answer.Outcome.TheVariants.{Acknowledg
 use Rattle.fl_c_operations.specs.declared.answer.UseFault.{UseFault}
 use Rattle.fl_c_operations.specs.declared.answer.UseFault.TheVariants.{NoSuchOperation, WrongRoom, Unread, End}
 use Rattle.fl_c_operations.specs.Sides.{Tells}
-use Rattle.fl_c_operations.specs.declared.kept.KeptCall.{KeptCall}
-use Rattle.fl_c_operations.specs.declared.kept.KeptCall.TheVariants.{Whole}
+use Rattle.fl_c_operations.specs.declared.unread.UnreadCall.{UnreadCall}
+use Rattle.fl_c_operations.specs.declared.unread.UnreadCall.TheVariants.{Whole}
 use Rattle.fl_c_operations.specs.Calls.{AreCall, RefusesNumbers, numbers_of_call, PutsNumbers}
 use Rattle.fl_c_operations.specs.View.{TheHeld, program_of_held, ChangesEnd}
 
@@ -66,15 +66,16 @@ received_as (Ok Empty) = Ok NothingThere
 received_as (Ok HeldBack) = Ok Held
 received_as (Err fault) = Err (End fault)
 
-abbrev pub kept_in : Result ReceiveAnswer EndFault → Option KeptCall
-kept_in (Ok (Handle call)) = Some (Whole call)
-kept_in answer = None
+abbrev pub unread_in : Result ReceiveAnswer EndFault → Option UnreadCall
+unread_in (Ok (Handle call)) = Some (Whole call)
+unread_in answer = None
 
--- an end takes the fragment that stands first, and handles the call that it makes whole: what a receive says of it
+-- an end's receive that answers `Handle`, by the call alone, since no value need be made of a short one: the fragment that stands first
+-- is seen and taken, with those before it it is the call, and the end handles that
 abbrev pub TakesCall : TheEnd → TheSide → TheCall → TheEnd → TheSide → Type 0
 TakesCall s p c t q =
     IsOpen s × ((f : Frag) × (m : TheSide) × (bare f ≡ f) × SharedTakes p (saw f) m × SharedTakes m (found f) q
-    × (AreFrags s (s.parts ++ f ∷ []) c × (t ≡ with_handled s c)))
+    × (AreCallsFrags s (s.parts ++ f ∷ []) c × (t ≡ with_handled s c)))
 
 -- the place stays the end's, with its program, and the end handles the call
 pub record HandlesWith (h : TheHeld) (c : TheCall) (t : TheHeld) (was is : TheReassembly) : Type 0 where

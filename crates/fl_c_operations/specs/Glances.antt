@@ -7,14 +7,18 @@ use Rattle.fl_ring.specs.SharedSides.{TheSide, SharedTakes}
 use Rattle.fl_endpoint.specs.View.{TheEnd}
 use Rattle.fl_endpoint.specs.Events.{IsOpen}
 use Rattle.fl_c_operations.specs.Transmissions.{IsShortAt}
-use Rattle.fl_c_operations.specs.Seen.{IsLent}
+use Rattle.fl_c_operations.specs.Seen.{IsAfterLook}
 use Rattle.fl_c_operations.specs.declared.glance.Glance.{Glance}
 use Rattle.fl_c_operations.specs.declared.glance.Glance.TheVariants.{Nothing, Acknowledgement, Short, Untaken}
 
--- nothing stands there; what only acknowledges was taken, or the fragment of a short call; or nothing was taken, and a receive may not look again
+-- what a first look came to; `between` says that no call is under way
 abbrev pub Glances : TheEnd → Bool → TheSide → Glance → Option Frag → TheSide → Type 0
+-- nothing stands there
 Glances s between p Nothing seen q = IsOpen s × SharedTakes p missed q
+-- a fragment that only acknowledges was taken
 Glances s between p Acknowledgement seen q = IsOpen s × ((m : TheSide) × SharedTakes p saw_ack m × SharedTakes m found_ack q)
+-- the only fragment of this call was taken
 Glances s between p (Short call) seen q = (between ≡ true) × IsOpen s
     × ((f : Frag) × (m : TheSide) × (bare f ≡ f) × SharedTakes p (saw f) m × SharedTakes m (found f) q × IsShortAt s call.msg.0 (take call.count call.tape) f)
-Glances s between p Untaken seen q = IsLent s p seen q
+-- no fragment was taken; the receive that follows must not look again
+Glances s between p Untaken seen q = IsAfterLook s p seen q

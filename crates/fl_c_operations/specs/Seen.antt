@@ -8,7 +8,7 @@ use Rattle.fl_endpoint.specs.Events.{IsOpen}
 use Rattle.fl_ring.specs.SharedSeats.{front_seen}
 use Rattle.fl_ring.specs.SharedSides.{TheSide, SharedTakes}
 
--- a side, and the fragment of a call that it has seen first
+-- a side, and the fragment of a call that it has seen standing first
 pub record TheLooked : Type 0 where
   pub side : TheSide
   pub seen : Option Frag
@@ -28,8 +28,8 @@ SeenTakes (Some frag) p kept seen q = SharedTakes p kept q × (seen ≡ None)
 SeenTakes (Some frag) p no_room seen q = SharedTakes p no_room q × (seen ≡ None)
 SeenTakes (Some frag) p look seen q = ⊥
 
--- what a receive that may not look again has: a side that has seen nothing and is as it was, or one that has seen what stands first of an
--- end that takes it
-abbrev pub IsLent : TheEnd → TheSide → Option Frag → TheSide → Type 0
-IsLent s p None q = q ≡ p
-IsLent s p (Some frag) q = IsOpen s × SharedTakes p (saw (bare frag)) q
+-- what a receive must have that is not to look again: a side that has seen nothing and is as it was, or one that has seen what stands
+-- first, of an end that takes it
+abbrev pub IsAfterLook : TheEnd → TheSide → Option Frag → TheSide → Type 0
+IsAfterLook s p None q = q ≡ p
+IsAfterLook s p (Some frag) q = IsOpen s × SharedTakes p (saw (bare frag)) q

@@ -16,6 +16,7 @@ abbrev pub calls_left : List Frag → List (List Frag) → List (List Frag)
 calls_left [] waiting = waiting
 calls_left (f ∷ rest) waiting = (f ∷ rest) ∷ waiting
 
+-- the same of what an end is to send
 abbrev pub all_of : TheOutgoing → List (List Frag)
 all_of o = calls_left o.unwritten o.waiting
 
@@ -27,6 +28,7 @@ with_outgoing s o = record s { outgoing = o }
 abbrev pub transmitting_frag : Frag → TheEnd → TheEnd
 transmitting_frag f s = with_outgoing s (begun (f ∷ []) (all_of s.outgoing))
 
+-- the end as it is shown: with that call in transmission, if there is one
 abbrev pub transmitting : Option Frag → TheEnd → TheEnd
 transmitting None s = s
 transmitting (Some f) s = transmitting_frag f s
@@ -39,9 +41,10 @@ pub record Transmits (f : Frag) (s : TheEnd) : Type 0 where
   pub goes : goes_on (all_of s.outgoing) ≡ s.outgoing
   pub few : length (all_of s.outgoing) ≤ 16
 
-abbrev pub TransmitsIfSome : Option Frag → TheEnd → Type 0
-TransmitsIfSome None s = Unit {0}
-TransmitsIfSome (Some f) s = Transmits f s
+-- the same, where there is one
+abbrev pub MayTransmit : Option Frag → TheEnd → Type 0
+MayTransmit None s = Unit {0}
+MayTransmit (Some f) s = Transmits f s
 
 -- each fitting call is refused for this
 abbrev pub RefusesFitting : TheEnd → EndFault → Type 0
@@ -55,7 +58,8 @@ holds_all s = has_rules s.rules && (length (all_of s.outgoing) == 16)
 abbrev pub IsFragFrom : TheEnd → List ℕ → Frag → Type 0
 IsFragFrom s numbers f = IsFragOfNumbers (program_of s.program) (number_or_0 s.circuit) numbers f
 
--- a call of the message has this tape, and this is its only fragment; there is no reply to it by rule
+-- a call of the message has this tape, and this is its only fragment; there is no reply to it by rule; and the interface's counts fit
+-- words, as the law asks that no fragments are two calls'
 pub record IsShortAt (s : TheEnd) (msg : ℕ) (tape : List ℕ) (f : Frag) : Type 0 where
   pub short : IsFragOfTape (program_of s.program) 0 msg tape f
   pub rule : rule_at s.rules msg ≡ None

@@ -8,8 +8,8 @@ use Rattle.fl_compile.specs.declared.program.Program.{Program}
 use Rattle.fl_compile.specs.Programs.{TheProgram, program_of}
 use Rattle.fl_endpoint.specs.View.{TheEnd, fresh}
 use Rattle.fl_endpoint.specs.Lent.{AddsPlace, IsPlaceOf}
-use Rattle.fl_c_operations.specs.declared.kept.KeptCall.{KeptCall}
-use Rattle.fl_c_operations.specs.declared.kept.KeptCall.TheVariants.{Whole, Short}
+use Rattle.fl_c_operations.specs.declared.unread.UnreadCall.{UnreadCall}
+use Rattle.fl_c_operations.specs.declared.unread.UnreadCall.TheVariants.{Whole, Short}
 use Rattle.fl_c_operations.specs.Calls.{numbers_of_call}
 
 -- an end with its side, the place of the calls that come to it, and the numbers of the call that it handled last, until that is read
@@ -23,21 +23,22 @@ abbrev pub program_of_held : TheHeld → TheProgram
 program_of_held h = program_of h.end.program
 
 -- the numbers of a call that was handled, as the code keeps it
-abbrev pub numbers_kept : TheProgram → KeptCall → List ℕ
-numbers_kept x (Whole call) = numbers_of_call x (call_of call)
-numbers_kept x (Short call) = call.msg.0 ∷ take call.count call.tape
+abbrev pub numbers_unread : TheProgram → UnreadCall → List ℕ
+numbers_unread x (Whole call) = numbers_of_call x (call_of call)
+numbers_unread x (Short call) = call.msg.0 ∷ take call.count call.tape
 
-abbrev pub handled_by : Program → Option KeptCall → Option (List ℕ)
-handled_by program kept = option_map (numbers_kept (program_of program)) kept
+-- the same, where a call is unread
+abbrev pub handled_by : Program → Option UnreadCall → Option (List ℕ)
+handled_by program unread = option_map (numbers_unread (program_of program)) unread
 
 -- nothing was taken of a call that isn't whole
 abbrev pub IsBetween : List TheReassembly → Type 0
 IsBetween calls = (r : TheReassembly) → slice_get calls 0 ≡ Some r → r.parts ≡ []
 
--- what is so at any time
+-- the end's place is there; and where the code keeps that no call is under way, none is
 pub record IsHeld (s : TheEnd) (calls : List TheReassembly) (between : Bool) : Type 0 where
   pub place : IsPlaceOf s calls 0
-  pub none : between ≡ true → IsBetween calls
+  pub idle : between ≡ true → IsBetween calls
 
 -- a new end of a program over a side, off circuits
 abbrev pub IsNewEnd : Program → TheSide → TheHeld → Type 0

@@ -3,17 +3,17 @@
 ghost use Rattle.std.specs.Prelude.{◌≡◌, None, IfOk};
 ghost use Rattle.fl_c_operations.specs.Sides.{Tells};
 ghost use Rattle.fl_c_operations.specs.View.{IsNewEnd};
-ghost use Rattle.fl_c_operations.specs.Ends.{called_as, received_as, kept_in};
+ghost use Rattle.fl_c_operations.specs.Ends.{called_as, received_as, unread_in};
 ghost use Rattle.fl_c_operations.specs.Ends.{CallsBy, WritesBy, ReceivesNext, ReceivesBy, ReadsBy, RulesBy, IsBusyBy, UsesEnd};
 
 use crate::answer::{Outcome, UseFault};
 use crate::calls::read_numbers;
 use crate::glance::{Glance, receive_lent, take_glance};
-use crate::kept::{KeptCall, put_kept};
 use crate::looked::LookedSide;
 use crate::operation::Operation;
 use crate::side::tell;
 use crate::transmitting::TransmittingEnd;
+use crate::unread::{UnreadCall, put_unread};
 use fl_base::{Circuit, MsgNo};
 use fl_compile::Program;
 use fl_endpoint::{End, EndFault, ReceiveAnswer, WriteAnswer};
@@ -30,8 +30,8 @@ pub struct HeldEnd {
     end: TransmittingEnd,
     side: LookedSide,
     calls: Reassemblies,
-    handled: Option<KeptCall>,
-    // nothing was taken of a call that isn't whole
+    handled: Option<UnreadCall>,
+    // where true, nothing was taken of a call that isn't whole; it may be false there too
     between: bool,
     // memory that is used again
     spare: Vec<u64>,
@@ -66,12 +66,12 @@ fn called(answer: Result<(), EndFault>) -> Result<Outcome, UseFault>
 #[inline]
 fn received(
     answer: Result<ReceiveAnswer, EndFault>,
-) -> (Result<Outcome, UseFault>, Option<KeptCall>)
+) -> (Result<Outcome, UseFault>, Option<UnreadCall>)
     ensures told { result.0 ≡ received_as answer }
-    ensures kept { result.1 ≡ kept_in answer }
+    ensures unread { result.1 ≡ unread_in answer }
 {
     match answer {
-        Ok(ReceiveAnswer::Handle(call)) => (Ok(Outcome::Handled), Some(KeptCall::Whole(call))),
+        Ok(ReceiveAnswer::Handle(call)) => (Ok(Outcome::Handled), Some(UnreadCall::Whole(call))),
         Ok(ReceiveAnswer::Part) => (Ok(Outcome::PartTaken), None),
         Ok(ReceiveAnswer::Quiet) => (Ok(Outcome::Acknowledgement), None),
         Ok(ReceiveAnswer::Empty) => (Ok(Outcome::Nothing), None),
@@ -178,7 +178,7 @@ impl HeldEnd {
             Glance::Acknowledgement => Ok(Outcome::Acknowledgement),
             Glance::Short(call) => {
                 law_one_reading();
-                self.handled = Some(KeptCall::Short(call));
+                self.handled = Some(UnreadCall::Short(call));
                 Ok(Outcome::Handled)
             }
             Glance::Untaken => {
@@ -203,7 +203,7 @@ impl HeldEnd {
         let Some(call) = &self.handled else {
             return Ok(Outcome::Nothing);
         };
-        match put_kept(self.end.program(), call, &mut self.spare, room) {
+        match put_unread(self.end.program(), call, &mut self.spare, room) {
             Err(fault) => Err(fault),
             Ok(count) => {
                 self.handled = None;

@@ -2,7 +2,7 @@
 
 ghost use Rattle.fl_ring.specs.SharedSides.{TheSide, SharedTakes};
 ghost use Rattle.fl_endpoint.specs.Lent.{IsPlaceOf, receipt, ReceivesAt};
-ghost use Rattle.fl_c_operations.specs.Seen.{IsLent};
+ghost use Rattle.fl_c_operations.specs.Seen.{IsAfterLook};
 ghost use Rattle.fl_c_operations.specs.Glances.{Glances};
 
 use crate::looked::LookedSide;
@@ -21,7 +21,7 @@ pub(crate) enum Glance {
     Acknowledgement,
     /// The only fragment of this call, to which there is no reply by rule.
     Short(ShortCall),
-    /// Nothing: the end has to be asked.
+    /// No fragment was taken; the end itself has to receive.
     Untaken,
 }
 
@@ -62,7 +62,7 @@ pub(crate) fn receive_lent(
     calls: &mut Reassemblies,
 ) -> Result<ReceiveAnswer, EndFault>
     requires place { IsPlaceOf end.old calls.old 0 }
-    ensures receives { (p : TheSide) → IsLent end.old p side.old.seen side.old.side
+    ensures receives { (p : TheSide) → IsAfterLook end.old p side.old.seen side.old.side
         → ReceivesAt SharedTakes (receipt end.old p result end.new side.new.side) calls.old 0 calls.new }
     ensures place { IsPlaceOf end.new calls.new 0 }
 {

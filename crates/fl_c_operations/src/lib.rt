@@ -12,7 +12,7 @@
 //! - `transmitting.rt`: an end with a call of one fragment in transmission (`specs/Transmissions.antt`)
 //! - `short.rt`: calls of one fragment as numbers, without values (`specs/Shorts.antt`)
 //! - `glance.rt`: what an end takes at its first look (`specs/Glances.antt`); `looked.rt`: a side that has seen what stands first
-//!   (`specs/Seen.antt`); `kept.rt`: a call that was handled, until it is read
+//!   (`specs/Seen.antt`); `unread.rt`: a call that was handled, until it is read
 //! - `calls.rt`: calls as numbers (`specs/Calls.antt`); `tapes.rt`: whether a tape is a call's, where memory ran out
 //! - `program.rt`, `sender.rt`, `receiver.rt`: a program alone, and runs of its stubs alone (`specs/Runs.antt`)
 //! - `making.rt`: the ends, or the program, of a text or an image (`specs/Making.antt`)
@@ -25,7 +25,6 @@ mod end;
 mod glance;
 mod handing;
 mod handle;
-mod kept;
 mod looked;
 mod making;
 mod operation;
@@ -37,6 +36,7 @@ mod short;
 mod side;
 mod tapes;
 mod transmitting;
+mod unread;
 
 pub use answer::{Answered, Outcome, UseFault};
 pub use end::{HeldEnd, use_end};

@@ -1,4 +1,4 @@
-//! A side of a ring, and the fragment that it has seen first: so who has looked lends it to an end, which doesn't look again.
+//! A side of a ring, and the fragment that it has seen standing first: so who has looked lends it to an end, which doesn't look again.
 
 ghost use Rattle.std.specs.Prelude.{◌≡◌, false, Some, None};
 ghost use Rattle.fl_base.specs.declared.fragment.Frag.{Frag};
@@ -13,7 +13,7 @@ use fl_link::{PutFault, Sight, TakeSide, Told};
 use fl_ring::SharedSide;
 use std::marker::Model;
 
-/// A side, and the fragment of a call that it has seen first.
+/// A side, and the fragment of a call that it has seen standing first.
 #[derive(Drop)]
 pub(crate) struct LookedSide {
     pub(crate) side: SharedSide,

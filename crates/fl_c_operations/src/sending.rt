@@ -10,15 +10,15 @@ ghost use Rattle.fl_endpoint.specs.contracts.end.End as EndRows;
 ghost use Rattle.fl_ring.specs.contracts.shared.duo_sides.SharedSide as SharedSideRows;
 ghost use Rattle.fl_c_operations.specs.contracts.transmitting.TransmittingEnd as TransmittingRows;
 ghost use Rattle.fl_c_operations.specs.contracts.looked.LookedSide as LookedRows;
-ghost use Rattle.fl_c_operations.specs.contracts.kept.KeptCall as KeptRows;
+ghost use Rattle.fl_c_operations.specs.contracts.unread.UnreadCall as UnreadRows;
 ghost use Rattle.fl_c_operations.specs.contracts.end.HeldEnd as HeldRows;
 ghost use Rattle.fl_c_operations.specs.contracts.program.HeldProgram as HeldProgramRows;
 ghost use Rattle.fl_c_operations.specs.contracts.sender.HeldSender as SenderRows;
 ghost use Rattle.fl_c_operations.specs.contracts.receiver.HeldReceiver as ReceiverRows;
 ghost use Rattle.fl_c_operations.specs.contracts.handle.Handle as HandleRows;
 
-use crate::kept::KeptCall;
 use crate::program::HeldProgram;
+use crate::unread::UnreadCall;
 use fl_compile::Program;
 use fl_endpoint::End;
 use fl_machine::{Reassemblies, RecvRun, SendRun};
@@ -75,11 +75,11 @@ fn looked_sent()
     side_sent();
 }
 
-fn kept_sent()
-    ensures sent { IsSend KeptRows.the_row }
+fn unread_sent()
+    ensures sent { IsSend UnreadRows.the_row }
 {
     call_sent();
-    sends::<KeptCall>();
+    sends::<UnreadCall>();
 }
 
 fn held_sent()
@@ -88,7 +88,7 @@ fn held_sent()
     transmitting_sent();
     looked_sent();
     calls_sent();
-    kept_sent();
+    unread_sent();
 }
 
 fn send_run_sent()

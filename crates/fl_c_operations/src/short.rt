@@ -190,7 +190,7 @@ fn read_tape(ops: &[Op], words: &[u64; 7], tape: &mut [u64; 7]) -> Option<usize>
     None
 }
 
-// Whether two fragments are one.
+// Tells that two fragments are one.
 #[inline(always)]
 fn are_same(one: &Frag, other: &Frag) -> bool
     ensures same { result ≡ true → one.now ≡ other.now }

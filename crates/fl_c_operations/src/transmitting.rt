@@ -33,7 +33,7 @@ impl Model for TransmittingEnd {
     ghost use Rattle.std.specs.Coded.{codes};
     ghost use Rattle.fl_compile.specs.contracts.program.Program.{the_row};
     ghost use Rattle.fl_endpoint.specs.View.{TheEnd};
-    ghost use Rattle.fl_c_operations.specs.Transmissions.{transmitting, TransmitsIfSome};
+    ghost use Rattle.fl_c_operations.specs.Transmissions.{transmitting, MayTransmit};
 
     ghost Value = { TheEnd };
 
@@ -41,7 +41,7 @@ impl Model for TransmittingEnd {
 
     ghost view = { λ h. transmitting h.in_transmission h.end };
 
-    ghost invariant = { λ h. TransmitsIfSome h.in_transmission h.end };
+    ghost invariant = { λ h. MayTransmit h.in_transmission h.end };
 }
 
 // What a fitting call is refused for, but for the want of memory.
@@ -283,7 +283,7 @@ impl TransmittingEnd {
         }
     }
 
-    // Whether the end takes a fragment. It doesn't say so where 16 calls may wait.
+    // Tells that the end takes a fragment. It may miss that where 15 calls or more wait.
     #[inline(always)]
     pub(crate) fn may_take(&self) -> bool
         ensures opened { result ≡ true → IsOpen self.now }

@@ -1,7 +1,4 @@
-use Rattle.std.proofs.Common.{Option}
-use Rattle.fl_base.specs.declared.fragment.Frag.{Frag}
 use Rattle.fl_link.specs.Looks.{Look}
-use Rattle.fl_ring.specs.SharedSides.{TheSide}
 use Rattle.fl_c_operations.specs.Seen.{TheLooked, SeenTakes}
 use Rattle.fl_c_operations.proofs.Looking.{goes_over_at, lent_over}
 use Rattle.fl_c_operations.proofs.glance.receive_lent.Goals as goal

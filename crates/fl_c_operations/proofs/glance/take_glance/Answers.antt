@@ -1,20 +1,20 @@
-use Rattle.std.proofs.Common.{◌≡◌, Option, refl, sym, subst, ◌∙◌}
+use Rattle.std.proofs.Common.{Option, refl, sym, subst}
 use Rattle.fl_base.specs.declared.fragment.Frag.{Frag}
 use Rattle.fl_base.specs.Control.{bare}
 use Rattle.fl_link.specs.Looks.{Look, saw, saw_ack, missed}
 use Rattle.fl_ring.specs.SharedSides.{TheSide, SharedTakes}
-use Rattle.fl_c_operations.specs.Seen.{IsLent}
+use Rattle.fl_c_operations.specs.Seen.{IsAfterLook}
 use Rattle.fl_c_operations.proofs.Receives.{bare_twice}
 use Rattle.fl_c_operations.proofs.glance.take_glance.Goals as goal
 
 pub returns-then-not-between : goal.returns-then-not-between
 returns-then-not-between c = record {
-  glances = subst (λ (o : Option Frag). IsLent c.args.end.now c.args.side.now.side o c.forget.new.self.side) (sym c.forget.ensures.none) c.forget.ensures.side;
+  glances = subst (λ (o : Option Frag). IsAfterLook c.args.end.now c.args.side.now.side o c.forget.new.self.side) (sym c.forget.ensures.none) c.forget.ensures.side;
 }
 
 pub returns-then-not-may_take : goal.returns-then-not-may_take
 returns-then-not-may_take c = record {
-  glances = subst (λ (o : Option Frag). IsLent c.args.end.now c.args.side.now.side o c.forget.new.self.side) (sym c.forget.ensures.none) c.forget.ensures.side;
+  glances = subst (λ (o : Option Frag). IsAfterLook c.args.end.now c.args.side.now.side o c.forget.new.self.side) (sym c.forget.ensures.none) c.forget.ensures.side;
 }
 
 pub returns-in-Empty : goal.returns-in-Empty
@@ -39,7 +39,7 @@ returns-in_default c =
     let sees = subst (λ (p : TheSide). SharedTakes p (saw (bare c.in-Data.frag)) m) c.forget.ensures.side c.in-Data.ensures.look in
     let kept = subst (λ (q : TheSide). SharedTakes c.args.side.now.side (saw (bare c.in-Data.frag)) q) (sym c.keep.ensures.side) sees in
     record {
-      glances = subst (λ (o : Option Frag). IsLent c.args.end.now c.args.side.now.side o c.keep.new.self.side) (sym c.keep.ensures.seen) (c.if-not-may_take.ensures.opened refl, kept);
+      glances = subst (λ (o : Option Frag). IsAfterLook c.args.end.now c.args.side.now.side o c.keep.new.self.side) (sym c.keep.ensures.seen) (c.if-not-may_take.ensures.opened refl, kept);
     }
 
 -- a short call is taken

@@ -1,6 +1,5 @@
 use Rattle.std.proofs.Common.{take, refl, subst, ◌∙◌}
 use Rattle.fl_base.specs.declared.fragment.Frag.{Frag}
-use Rattle.fl_base.specs.Control.{bare}
 use Rattle.fl_compile.specs.Programs.{program_of}
 use Rattle.fl_c_operations.specs.Shorts.{IsFragOfTape}
 use Rattle.fl_c_operations.proofs.short.short_call.Goals as goal

@@ -1,6 +1,6 @@
-use Rattle.std.proofs.Common.{◌≡◌, Option, Some, None, Err, inl, inr, refl, sym, ap, subst, ◌∙◌}
+use Rattle.std.proofs.Common.{◌≡◌, Option, Err, inl, inr, refl, sym, ap, subst, ◌∙◌}
 use Rattle.std.specs.Prelude.{IsSome}
-use Rattle.fl_c_operations.specs.declared.kept.KeptCall.{KeptCall}
+use Rattle.fl_c_operations.specs.declared.unread.UnreadCall.{UnreadCall}
 use Rattle.fl_c_operations.specs.declared.answer.UseFault.TheVariants.{Unread}
 use Rattle.fl_c_operations.specs.View.{TheHeld, handled_by}
 use Rattle.fl_c_operations.specs.Ends.{ReceivesBy}
@@ -11,7 +11,7 @@ returns-in-Some c =
     let i = c.self.inside in
     let view : TheHeld = record { end = i.end; side = i.side.side; calls = i.calls; handled = handled_by i.end.program i.handled } in
     let same : view ≡ c.args.self.now = cc in
-    let kept = subst (λ (o : Option KeptCall). IsSome (handled_by i.end.program o)) (sym c.in-Some.is) refl in
+    let kept = subst (λ (o : Option UnreadCall). IsSome (handled_by i.end.program o)) (sym c.in-Some.is) refl in
     record { receives = subst (λ (h : TheHeld). ReceivesBy h (Err Unread) h) same (inl (kept, refl, refl)) }
 
 pub receive_next-requires : goal.receive_next-requires
@@ -19,12 +19,12 @@ receive_next-requires c =
     let i = c.self.inside in
     let view : TheHeld = record { end = i.end; side = i.side.side; calls = i.calls; handled = handled_by i.end.program i.handled } in
     let same : view ≡ c.args.self.now = cc in
-    record { read = ap (λ (h : TheHeld). h.handled) (sym same) ∙ ap (λ (o : Option KeptCall). handled_by i.end.program o) c.in-None.is }
+    record { read = ap (λ (h : TheHeld). h.handled) (sym same) ∙ ap (λ (o : Option UnreadCall). handled_by i.end.program o) c.in-None.is }
 
 pub returns-in-None : goal.returns-in-None
 returns-in-None c =
     let i = c.self.inside in
     let view : TheHeld = record { end = i.end; side = i.side.side; calls = i.calls; handled = handled_by i.end.program i.handled } in
     let same : view ≡ c.args.self.now = cc in
-    let none = ap (λ (h : TheHeld). h.handled) (sym same) ∙ ap (λ (o : Option KeptCall). handled_by i.end.program o) c.in-None.is in
+    let none = ap (λ (h : TheHeld). h.handled) (sym same) ∙ ap (λ (o : Option UnreadCall). handled_by i.end.program o) c.in-None.is in
     record { receives = inr (none, c.receive_next.ensures.receives) }

@@ -1,9 +1,11 @@
 //! A call that was handled, until it is read.
 
-ghost use Rattle.std.specs.Prelude.{◌≡◌, ◌∷◌, take};
+ghost use Rattle.std.specs.Prelude.{◌≡◌, ◌≢◌, ◌∷◌, take, Err};
 ghost use Rattle.fl_compile.specs.Programs.{program_of};
+ghost use Rattle.fl_endpoint.specs.declared.fault.EndFault.TheVariants.{Memory};
+ghost use Rattle.fl_c_operations.specs.declared.answer.UseFault.TheVariants.{End};
 ghost use Rattle.fl_c_operations.specs.Calls.{PutsNumbers};
-ghost use Rattle.fl_c_operations.specs.View.{numbers_kept};
+ghost use Rattle.fl_c_operations.specs.View.{numbers_unread};
 
 use crate::answer::UseFault;
 use crate::calls::{put_numbers, write_numbers};
@@ -13,7 +15,7 @@ use fl_value_data::Call;
 
 /// A call that was handled, until it is read.
 #[derive(Drop)]
-pub(crate) enum KeptCall {
+pub(crate) enum UnreadCall {
     /// As it came.
     Whole(Call),
     /// One of one fragment, by its tape.
@@ -24,6 +26,7 @@ pub(crate) enum KeptCall {
 #[inline(always)]
 fn put_short(call: &ShortCall, room: &mut [u64]) -> Result<u64, UseFault>
     ensures puts { PutsNumbers (call.now.msg.0 ∷ take call.now.count call.now.tape) room.old result room.new }
+    ensures not_memory { result ≢ Err (End Memory) }
 {
     let tape = call.tape();
     let count = tape.len() as u64 + 1;
@@ -36,16 +39,16 @@ fn put_short(call: &ShortCall, room: &mut [u64]) -> Result<u64, UseFault>
 
 /// Puts a call's message and tape into the first places of a room, and tells how many numbers these are.
 #[inline(always)]
-pub(crate) fn put_kept(
+pub(crate) fn put_unread(
     program: &Program,
-    call: &KeptCall,
+    call: &UnreadCall,
     spare: &mut Vec<u64>,
     room: &mut [u64],
 ) -> Result<u64, UseFault>
-    ensures puts { PutsNumbers (numbers_kept (program_of program.now) call.now) room.old result room.new }
+    ensures puts { PutsNumbers (numbers_unread (program_of program.now) call.now) room.old result room.new }
 {
     match call {
-        KeptCall::Whole(call) => put_numbers(program, call, spare, room),
-        KeptCall::Short(call) => put_short(call, room),
+        UnreadCall::Whole(call) => put_numbers(program, call, spare, room),
+        UnreadCall::Short(call) => put_short(call, room),
     }
 }
