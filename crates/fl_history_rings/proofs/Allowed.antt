@@ -26,8 +26,8 @@ use Rattle.fl_history_rings.specs.declared.board.Insight.TheVariants.{Nothing, W
 use Rattle.fl_history_rings.specs.declared.board.CoreView.{CoreView}
 use Rattle.fl_history_rings.specs.declared.board.SeatView.{SeatView}
 use Rattle.fl_history_rings.specs.Rings.{mate, Way, way_with, Does, entry}
-use Rattle.fl_history_rings.specs.Rule.{first_word, putter_of, Stands, Lies, KnowsSide, Holds, Account, Fits, Held, RingsHold, view_of, seat_of, one_core, core_of, alone, puts_at, takes_at, known_at, due_at, part_at}
-use Rattle.fl_history_rings.specs.Rule.{finds_word, stores_word, stores_control, IsDueAt, CountsSent, looks, counts, loads_word, sees_frag, takes_frag, OneOrder, compares}
+use Rattle.fl_history_rings.specs.Rule.{first_word, putter_of, Lies, KnowsSide, Holds, Account, Fits, Held, RingsHold, view_of, seat_of, one_core, core_of, alone, puts_at, takes_at, known_at, due_at}
+use Rattle.fl_history_rings.specs.Rule.{finds_word, stores_word, stores_control, CountsSent, looks, counts, loads_word, sees_frag, takes_frag, OneOrder, compares}
 use Rattle.fl_history_rings.specs.Seats.{put_insight}
 use Rattle.fl_history_rings.proofs.Logs.{within, there, then_is}
 use Rattle.fl_history_rings.proofs.Words.{mate_back, slot_putter, slots_here, slot_index, slot_inside}

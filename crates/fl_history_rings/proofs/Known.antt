@@ -1,5 +1,5 @@
 -- What a side knows to be taken was told, and what was told was taken.
-use Rattle.std.proofs.Common.{ℕ, zero, suc, ◌≡◌, ◌≢◌, ◌<◌, ◌≤◌, ◌+◌, ◌%◌, List, [], ◌∷◌, ◌++◌, length, set, ap, subst, ◌∙◌, sym, refl, arith}
+use Rattle.std.proofs.Common.{ℕ, ◌≡◌, ◌≢◌, ◌≤◌, ◌+◌, ◌%◌, List, [], ◌∷◌, ◌++◌, length, set, ap, subst, ◌∙◌, sym, refl, arith}
 use mathlib.Core.Logic.{dite}
 use mathlib.Core.Option.{some}
 use native.Mathlib.Decide.{ℕ_discrete}
@@ -13,10 +13,10 @@ use Rattle.fl_history_rings.specs.declared.board.Action.TheVariants.{Put, Found,
 use Rattle.fl_history_rings.specs.declared.board.Entry.{Entry}
 use Rattle.fl_history_rings.specs.declared.board.SideEnd.{SideEnd}
 use Rattle.fl_history_rings.specs.Rings.{mate, Way, way_with, Does, Goes, Runs, all_empty}
-use Rattle.fl_history_rings.specs.Rule.{gather, one_found, takes_at, known_from, known_at, told_at}
+use Rattle.fl_history_rings.specs.Rule.{gather, one_found, known_from, known_at, told_at}
 use Rattle.fl_history_rings.specs.Laws.{KnownWasTaken}
 use Rattle.fl_history_rings.proofs.Logs.{within, there, same_there}
-use Rattle.fl_history_rings.proofs.Words.{mate_back, mate_apart}
+use Rattle.fl_history_rings.proofs.Words.{mate_back}
 use Rattle.fl_history_rings.proofs.Laws.{piece_else, piece_here, mine_at, theirs_at, still_there, stands_after, goes_long, empty_there}
 
 -- ---- counts

@@ -8,16 +8,14 @@ use native.Mathlib.Decide.{ℕ_discrete}
 use lib.ListN.{get_elem?, length-replicate}
 use Rattle.atomic_table.proofs.Lists.{set_here, set_else}
 use Rattle.fl_base.specs.declared.fragment.Frag.{Frag}
-use Rattle.fl_base.specs.Control.{told_of}
 use Rattle.fl_history_rings.specs.declared.board.Action.{Action}
 use Rattle.fl_history_rings.specs.declared.board.Action.TheVariants.{Put, Found, Missed, Saw, Took}
 use Rattle.fl_history_rings.specs.declared.board.Entry.{Entry}
 use Rattle.fl_history_rings.specs.declared.board.SideEnd.{SideEnd}
 use Rattle.fl_history_rings.specs.Rings.{mate, Way, way_with, Does, Goes, Runs, all_empty, entry, IsByItsCore, steps_of}
 use Rattle.fl_history_rings.specs.Rule.{gather, one_put, one_took, one_action, puts_at, takes_at, told_from, told_at}
-use Rattle.fl_history_rings.specs.Cores.{TheCore}
 use Rattle.fl_history_rings.specs.Laws.{FindsIn, LooksFindWhatStands, TakenIsPrefix, PutsTellWhatWasTaken, PutsFindRoom}
-use Rattle.fl_history_rings.proofs.Logs.{within, there, same_there, all_alike, then_is, else_is}
+use Rattle.fl_history_rings.proofs.Logs.{within, there, same_there, then_is, else_is}
 use Rattle.fl_history_rings.proofs.Told.{told_step}
 use Rattle.fl_history_rings.proofs.Words.{mate_back, mate_apart}
 

@@ -22,11 +22,10 @@ use Rattle.fl_history_rings.specs.declared.board.Plan.{Plan}
 use Rattle.fl_history_rings.specs.declared.board.Insight.{Insight}
 use Rattle.fl_history_rings.specs.declared.board.Insight.TheVariants.{Nothing, Writing, Reading}
 use Rattle.fl_history_rings.specs.declared.board.CoreView.{CoreView}
-use Rattle.fl_history_rings.specs.declared.board.SeatView.{SeatView}
 use Rattle.fl_history_rings.specs.declared.place.SlotPlace.{SlotPlace}
 use Rattle.fl_history_rings.specs.Rings.{mate, entry}
 use Rattle.fl_history_rings.specs.Rule.{first_word, putter_of, RingsHold, view_of, knowing, with_action, one_core, core_of, alone, part_in, loaded_in, control_in, frag_in, puts_at, takes_at, known_at, one_took, due_at}
-use Rattle.fl_history_rings.specs.Rule.{finds_word, stores_word, stores_control, IsDueAt, CountsSent, looks, counts, loads_word, sees_frag, takes_frag}
+use Rattle.fl_history_rings.specs.Rule.{finds_word, stores_word, stores_control, CountsSent, looks, counts, loads_word, sees_frag, takes_frag}
 use Rattle.fl_history_rings.specs.Seats.{RingsSeat, view_at, put_insight, IsSeated, IsPutPlace, IsTakePlace, HasSlot, IsNextWord, IsReading, CountsWithin}
 use Rattle.fl_history_rings.proofs.Logs.{not_gathered}
 use Rattle.fl_history_rings.proofs.Words.{mate_back, way_within, slot_putter, slots_here, slot_index}

@@ -1,5 +1,5 @@
 -- The sides of rings, once their core did more.
-use Rattle.std.proofs.Common.{ℕ, ◌≡◌, ◌<◌, ◌≤◌, ◌+◌, ◌%◌, ◌^◌, ◌⊎◌, inl, inr, List, [], ◌∷◌, ◌++◌, length, ap, subst, ◌∙◌, sym, refl, arith, Option, Some, None, MatchOption, true, false, ltb, ltb-true, ltb-false, ◌≢◌, get_or}
+use Rattle.std.proofs.Common.{ℕ, ◌≡◌, ◌<◌, ◌≤◌, ◌+◌, ◌^◌, ◌⊎◌, inl, inr, List, [], ◌∷◌, ◌++◌, length, ap, subst, ◌∙◌, sym, refl, arith, true, false, ltb, ltb-true, ltb-false, ◌≢◌, get_or}
 use Rattle.std.proofs.lemmas.List.{length_push}
 use Rattle.std.proofs.lemmas.Bool.{cases_lt}
 use mathlib.Core.Option.{some}
@@ -18,13 +18,12 @@ use Rattle.fl_history_rings.specs.declared.board.Plan.{Plan}
 use Rattle.fl_history_rings.specs.declared.board.RingsBoard.{RingsBoard}
 use Rattle.fl_history_rings.specs.declared.board.Insight.TheVariants.{Nothing}
 use Rattle.fl_history_rings.specs.declared.board.CoreView.{CoreView}
-use Rattle.fl_history_rings.specs.declared.place.SlotPlace.{SlotPlace}
 use Rattle.fl_history_rings.specs.declared.place.RingSide.{RingSide}
 use Rattle.fl_history_rings.specs.Rings.{mate, entry}
 use Rattle.fl_history_rings.specs.Rule.{words_of, at_rest, with_action, core_of, alone, gather, known_from, one_put, one_took, one_found, puts_at, takes_at, known_at, told_at}
 use Rattle.fl_history_rings.specs.Seats.{RingsSeat, view_at, IsSeated, CountsWithin}
 use Rattle.fl_history_rings.specs.Cores.{TheCore, core_shown, noting, key_of, IsWhole, Owns, OwnsSlots}
-use Rattle.fl_history_rings.specs.Sides.{side_from, StepsBy, SideFor, HasFree, Looks, FindsRoom, counting, having_put, having_taken, next_place}
+use Rattle.fl_history_rings.specs.Sides.{side_from, StepsBy, SideFor, HasFree, Looks, FindsRoom, counting, having_put, having_taken}
 use Rattle.fl_history_rings.specs.Laws.{SidesStay}
 use Rattle.fl_history_rings.proofs.Logs.{within, same_there, gather_here, gather_else, not_gathered, known_push}
 use Rattle.fl_history_rings.proofs.Told.{told_put, told_else, told_still, told_taken}

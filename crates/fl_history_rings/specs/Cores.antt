@@ -122,10 +122,10 @@ abbrev pub with_core : TheGathering → TheCore → TheGathering
 with_core g c = record { table = g.table; sides = g.sides; cores = g.cores ++ c ∷ [] }
 
 -- One order of all that these cores did by all sides, from when the rings were empty: each step finds how its
--- ring stands at that moment, so that what is found, seen and taken is the fragment that stands first, nothing
--- is where a look finds nothing, and a fragment that is put finds a free slot and tells how many its side had
--- taken; each is a step of the core whose side it is; and of each of these cores it has all that it did, in its
--- order, and no more. Of other cores that the sides name it may have any steps.
+-- ring stands at that moment, so that what is found, seen and taken is the fragment that stands first,
+-- nothing is where a look finds nothing, and a fragment that is put finds a free slot and tells how many its
+-- side had taken; each is a step of the core whose side it is; and of each of these cores it has all that it
+-- did, in its order, and no more. Of other cores that the sides name it may have any steps.
 pub record InOneOrder (ends : List SideEnd) (cores : List TheCore) : Type 0 where
   pub sides_are : (i : ℕ) (c : TheCore) → get_elem? cores i ≡ some c → c.sides ≡ ends
   pub log : List Entry

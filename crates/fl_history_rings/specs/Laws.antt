@@ -15,7 +15,8 @@ use Rattle.fl_history_rings.specs.Rule.{puts_at, takes_at, known_at, told_at}
 use Rattle.fl_history_rings.specs.Cores.{TheCore, noting, InOneOrder}
 use Rattle.fl_history_rings.specs.Sides.{SideFor}
 
--- Law: what one side of a ring took is a prefix of what the other put, where the cores of both are among these.
+-- Law: what one side of a ring took is a prefix of what the other put, where the cores of both are among
+-- these.
 abbrev pub TakenIsPrefix : Type 0
 TakenIsPrefix = (ends : List SideEnd) (cores : List TheCore) → InOneOrder ends cores
     → (s : ℕ) (one other : SideEnd) → get_elem? ends s ≡ some one → get_elem? ends (mate s) ≡ some other
@@ -32,8 +33,8 @@ FindsIn waiting Missed = waiting ≡ []
 FindsIn waiting (Saw frag) = (rest : List Frag) × (waiting ≡ frag ∷ rest)
 FindsIn waiting (Took frag) = (rest : List Frag) × (waiting ≡ frag ∷ rest)
 
--- Law: in one order of all, each look finds what stands first for its side at that point: the first of what the
--- other side put before and this one didn't take, or nothing where nothing was.
+-- Law: in one order of all, each look and each take finds what stands first for its side at that point: the
+-- first of what the other side put before and this one didn't take, or nothing where nothing was.
 abbrev pub LooksFindWhatStands : Type 0
 LooksFindWhatStands = (ends : List SideEnd) (cores : List TheCore) (order : InOneOrder ends cores)
     (before after : List Entry) (e : Entry) → order.log ≡ before ++ e ∷ after
@@ -43,13 +44,16 @@ LooksFindWhatStands = (ends : List SideEnd) (cores : List TheCore) (order : InOn
 -- Law: a fragment tells how many its side had taken when it was put, modulo 65,536.
 abbrev pub PutsTellWhatWasTaken : Type 0
 PutsTellWhatWasTaken = (ends : List SideEnd) (cores : List TheCore) (order : InOneOrder ends cores)
-    (before after : List Entry) (core s : ℕ) (frag : Frag) → order.log ≡ before ++ entry core s (Put frag) ∷ after
+    (before after : List Entry) (core s : ℕ) (frag : Frag)
+    → order.log ≡ before ++ entry core s (Put frag) ∷ after
     → told_of frag.control ≡ length (takes_at s before) % 65536
 
--- Law: a put finds a free slot. What its side put before is less than what the other side had told, and the slots.
+-- Law: a put finds a free slot. Its side put fewer fragments before than the other side had told, and the
+-- slots.
 abbrev pub PutsFindRoom : Type 0
 PutsFindRoom = (ends : List SideEnd) (cores : List TheCore) (order : InOneOrder ends cores)
-    (before after : List Entry) (core s : ℕ) (frag : Frag) → order.log ≡ before ++ entry core s (Put frag) ∷ after
+    (before after : List Entry) (core s : ℕ) (frag : Frag)
+    → order.log ≡ before ++ entry core s (Put frag) ∷ after
     → (end : SideEnd) → get_elem? ends s ≡ some end
     → length (puts_at s before) < told_at (mate s) before + end.slots
 
@@ -58,8 +62,10 @@ abbrev pub KnownWasTaken : Type 0
 KnownWasTaken = (ends : List SideEnd) (cores : List TheCore) (order : InOneOrder ends cores)
     (before after : List Entry) → order.log ≡ before ++ after
     → (s : ℕ) (one other : SideEnd) → get_elem? ends s ≡ some one → get_elem? ends (mate s) ≡ some other
-    → (known_at s before ≤ told_at (mate s) before) × (told_at (mate s) before ≤ length (takes_at (mate s) before))
+    → (known_at s before ≤ told_at (mate s) before)
+    × (told_at (mate s) before ≤ length (takes_at (mate s) before))
 
 -- Law: what a core does by one side leaves its sides of other rings, and the other side of this one.
 abbrev pub SidesStay : Type 0
-SidesStay = (c : TheCore) (s : ℕ) (d : Action) (a : RingSide) → a.put.side ≢ s → SideFor c a → SideFor (noting c s d) a
+SidesStay = (c : TheCore) (s : ℕ) (d : Action) (a : RingSide)
+    → a.put.side ≢ s → SideFor c a → SideFor (noting c s d) a

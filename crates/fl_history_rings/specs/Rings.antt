@@ -27,8 +27,9 @@ pub record Way : Type 0 where
 abbrev pub way_with : List Frag → ℕ → ℕ → Way
 way_with waiting taken told = record { waiting = waiting; taken = taken; told = told }
 
--- One action of a side of a ring of n slots each way. It finds the way p that it puts into, and the way q that
--- it takes from, and leaves them as p' and q'. With a fragment that it puts it acknowledges all that it took.
+-- One action of a side of a ring of n slots each way. It finds the way p that it puts into, and the way q
+-- that it takes from, and leaves them as p' and q'. With a fragment that it puts it acknowledges all that it
+-- took.
 abbrev pub Does : ℕ → Way → Way → Action → Way → Way → Type 0
 Does n p q (Put frag) p' q' =
     (p.taken + length p.waiting < p.told + n) × (told_of frag.control ≡ q.taken % 65536)

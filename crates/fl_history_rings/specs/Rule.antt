@@ -1,26 +1,27 @@
 -- The rule of a table of rings of two sides, and what each kind of step tells its core.
 --
--- Each side puts fragments into a way of its own and takes from that of the other side of its ring. The ways lie
--- one behind the other, by the numbers of their sides, and one word behind all of them is nobody's. A way of n
--- slots takes 8n words: its slots, eight words each. There is no word for what is acknowledged: bits 48 to 63 of
--- every control word say how many fragments the side that put it had taken, modulo 65,536. Fragments are
--- numbered from 0 by way; that of number i goes to slot i mod n. The steps are these, each by the seat of the
--- core whose side it is:
+-- Each side puts fragments into a way of its own, and takes from the way of the other side of its ring. The
+-- ways lie one behind the other, by the numbers of their sides, and one word behind all of them is nobody's.
+-- A way of n slots takes 8n words, eight for each slot. There is no word for what is acknowledged: bits 48 to
+-- 63 of every control word say how many fragments the side that put it had taken, modulo 65,536. Fragments
+-- are numbered from 0 by way; that of number i goes to slot i mod n. The steps are these, each by the seat of
+-- the core whose side it is:
 --
---   the next payload word of the slot that is put into next is loaded: the core knows fewer than seven of them
+--   the next payload word of the slot that is put into next is loaded: the core knows fewer than seven of
+--     them
 --   a number is stored into a payload word of that slot, whose words before it the core knows: then it knows
 --     this one too, and none behind it. It knows that the slot is free
---   the control word is stored, with the epoch due and the number of all that the side took: the core knows all
---     seven payload words, and that the slot is free. The fragment is put
---   the control word of the slot that is taken from next is loaded. With the epoch due a fragment is found, which
---     stands first, and the count that it tells is known; with the other, none stands there. This is a look for a
---     fragment, or for room alone
+--   the control word is stored, with the epoch due and the number of all that the side took: the core knows
+--     all seven payload words, and that the slot is free. The fragment is put
+--   the control word of the slot that is taken from next is loaded. With the epoch due a fragment is found,
+--     which stands first, and the count that it tells is known; with the other, none stands there. This is a
+--     look for a fragment, or for room alone
 --   the payload words of the fragment that was found are loaded, one after another. With the seventh the
 --     core has seen the fragment, or has taken it
 --   at the start seats are cut off the first one, a core each, and at the end they are joined
 --
 -- Nobody keeps the history: the rule says that there is one.
-use Rattle.std.specs.Prelude.{ℕ, zero, suc, ◌≡◌, ◌≢◌, ◌+◌, ◌*◌, ◌-◌, ◌%◌, ◌≤◌, ◌<◌, ◌^◌, ◌==◌, nat_lt}
+use Rattle.std.specs.Prelude.{ℕ, zero, suc, ◌≡◌, ◌+◌, ◌*◌, ◌-◌, ◌%◌, ◌≤◌, ◌<◌, ◌^◌, ◌==◌, nat_lt}
 use Rattle.std.specs.Prelude.{if◌then◌else◌, List, [], ◌∷◌, ◌++◌, length, take, slice_index_or}
 use mathlib.Core.Option.{some}
 use lib.ListN.{get_elem?}
@@ -144,13 +145,15 @@ pub record Stands (p : Way) (w : WriterView) (r : ReaderView) : Type 0 where
   pub taken_is : p.taken ≡ length r.got
   pub told_is : p.told ≡ r.told
 
--- A ring of n slots each way lies from words b and c on, where its two sides know this, and so its ways stand.
+-- A ring of n slots each way lies from words b and c on, where its two sides know this, and so its ways
+-- stand.
 pub record Lies (b c n : ℕ) (words : List ℕ) (x y : SideView) (p q : Way) : Type 0 where
   pub runs : BothRun (ways b c n 0) words x y
   pub there : Stands p x.put y.take
   pub back : Stands q y.put x.take
 
--- the payload words that a core knows of the slot that side s puts into next, and of the one in hand
+-- the payload words that a core knows of the slot that side s puts into next, and of the one that it has in
+-- hand
 abbrev pub part_at : ℕ → Insight → List ℕ
 part_at s Nothing = []
 part_at s (Writing j part) = if j == s then part else []
@@ -288,7 +291,8 @@ nobody = seat_of []
 abbrev Player : Type 1
 Player = Step (Unit {0}) → Me (Unit {0}) SeatView → ℕ → Me (Unit {0}) SeatView → Type 0
 
--- the side that puts into the way of the step's word, the one that takes from it, and which word of a slot it is
+-- the side that puts into the way of the step's word, the one that takes from it, and which word of a slot
+-- it is
 abbrev pub putter_at : Step (Unit {0}) → SeatView → ℕ
 putter_at st v = putter_of (core_of v).sides st.word
 

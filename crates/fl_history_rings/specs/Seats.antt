@@ -17,8 +17,8 @@ use Rattle.fl_base.specs.Control.{epoch_of, told_of}
 use Rattle.fl_link.specs.Cursor.{epoch_at}
 use Rattle.fl_ring.specs.Counts.{count_from}
 use Rattle.fl_history_rings.specs.Rings.{mate}
-use Rattle.fl_history_rings.specs.Rule.{words_of, first_word, ArePaired, part_in, control_in, puts_at, takes_at}
-use Rattle.fl_history_rings.specs.Rule.{known_at, view_of, core_of, alone, knowing, with_action}
+use Rattle.fl_history_rings.specs.Rule.{words_of, first_word, ArePaired, part_in, control_in, puts_at}
+use Rattle.fl_history_rings.specs.Rule.{takes_at, known_at, view_of, core_of, alone, knowing, with_action}
 
 abbrev pub RingsSeat : Type 0
 RingsSeat = Seat (Unit {0}) SeatView

@@ -32,12 +32,15 @@ pub record StepsBy (ends : List SideEnd) (h : CoreView) (a : RingSide) : Type 0 
   pub put : IsPutPlace ends h a.put
   pub take : IsTakePlace ends h a.take
   pub one : a.take.side ≡ a.put.side
+  -- how many of its fragments it knows to be taken, and how many of the other side's it told
   pub known_is : a.known ≡ known_at a.put.side h.steps
+  pub told_is : a.told ≡ told_at a.put.side h.steps
+  -- it put what it knows to be taken, and no round more
   pub known_put : a.known ≤ a.put.cursor.index
   pub near : a.put.cursor.index ≤ a.known + a.put.cursor.size
+  -- as many as it can count
   pub most : a.put.cursor.index ≤ 2 ^ 62
   pub most_taken : a.take.cursor.index ≤ 2 ^ 62
-  pub told_is : a.told ≡ told_at a.put.side h.steps
 
 -- the same of a core as callers see it
 abbrev pub SideFor : TheCore → RingSide → Type 0
@@ -50,7 +53,7 @@ HasFree need a = a.put.cursor.index + need ≤ a.known + a.put.cursor.size
 abbrev pub LacksFree : ℕ → RingSide → Type 0
 LacksFree need a = a.known + a.put.cursor.size < a.put.cursor.index + need
 
--- the side that knows what a control word that it found tells
+-- the side, once it counted what this control word tells
 abbrev pub counting : RingSide → ℕ → RingSide
 counting a control = record a { known = count_from a.known (told_of control) }
 
@@ -66,8 +69,11 @@ pub record FindsRoom (need : ℕ) (s : TheCore) (a a' : RingSide) (t : TheCore) 
 
 -- the place behind this one
 abbrev pub next_place : SlotPlace → SlotPlace
-next_place p =
-    record { side = p.side; base = p.base; cursor = record { index = p.cursor.index + 1; size = p.cursor.size } }
+next_place p = record {
+  side = p.side;
+  base = p.base;
+  cursor = record { index = p.cursor.index + 1; size = p.cursor.size };
+}
 
 -- the side once it put a fragment, which acknowledges all that it took; and once it took one
 abbrev pub having_put : RingSide → RingSide
@@ -83,18 +89,22 @@ put_by a frag =
 
 -- so many slots were free, and this fragment is put
 abbrev pub Puts : ℕ → TheCore → RingSide → Frag → RingSide → TheCore → Type 0
-Puts need s a frag a' t = (between : TheCore) × (mid : RingSide) × FindsRoom need s a mid between
+Puts need s a frag a' t = (between : TheCore) × (mid : RingSide)
+    × FindsRoom need s a mid between × HasFree need mid
     × (t ≡ noting between a.put.side (Put (put_by mid frag))) × (a' ≡ having_put mid)
 
 -- the fragment that only acknowledges
 abbrev pub acknowledgement : Frag
 acknowledgement = record { words = replicate 7 0; control = 4 }
 
--- fewer than half of the slots are taken and not acknowledged
+-- so much is taken and not acknowledged: less than half of the slots, or at least half
 abbrev pub TellsNothing : RingSide → Type 0
 TellsNothing a = a.take.cursor.index - a.told < a.take.cursor.size / 2
 
--- fewer slots than so many are free, which a look has shown
+abbrev pub TellsSome : RingSide → Type 0
+TellsSome a = a.take.cursor.size / 2 ≤ a.take.cursor.index - a.told
+
+-- fewer slots than so many are free, also after a look
 abbrev pub FindsNone : ℕ → TheCore → RingSide → RingSide → TheCore → Type 0
 FindsNone need s a a' t = FindsRoom need s a a' t × LacksFree need a'
 

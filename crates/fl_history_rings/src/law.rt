@@ -1,7 +1,7 @@
 //! What one order of all steps by all sides tells: laws, as contracts of functions that do nothing.
 
-ghost use Rattle.fl_history_rings.specs.Laws.{TakenIsPrefix, LooksFindWhatStands};
-ghost use Rattle.fl_history_rings.specs.Laws.{PutsTellWhatWasTaken, PutsFindRoom, KnownWasTaken, SidesStay};
+ghost use Rattle.fl_history_rings.specs.Laws.{TakenIsPrefix, LooksFindWhatStands, PutsTellWhatWasTaken};
+ghost use Rattle.fl_history_rings.specs.Laws.{PutsFindRoom, KnownWasTaken, SidesStay};
 
 /// In one order of all that cores did, what one side of a ring took is a prefix of what the other put: of a
 /// ring whose two cores are among these, by what they did themselves.
@@ -9,8 +9,8 @@ pub fn law_taken_is_prefix()
     ensures prefix { TakenIsPrefix }
 {}
 
-/// In one order of all that cores did, each look finds what stands first for its side at that point, or nothing
-/// where nothing stands.
+/// In one order of all that cores did, each look and each take finds what stands first for its side at that
+/// point, or nothing where nothing stands.
 pub fn law_looks_find_what_stands()
     ensures looks { LooksFindWhatStands }
 {}

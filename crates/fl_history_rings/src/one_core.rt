@@ -5,8 +5,9 @@ ghost use Rattle.std.specs.Prelude.{OnOk, MatchOption, MatchResult};
 ghost use Rattle.fl_history_rings.specs.Rings.{mate};
 ghost use Rattle.fl_history_rings.specs.Rule.{words_of, first_word};
 ghost use Rattle.fl_history_rings.specs.Cores.{Owns, OwnsSlots};
-ghost use Rattle.fl_history_rings.specs.Sides.{place_from, side_from, SideFor, FindsNone, Stays, IsSpent, Puts, acknowledgement};
-ghost use Rattle.fl_history_rings.specs.Sides.{TellsNothing, Misses, Sees, Takes};
+ghost use Rattle.fl_history_rings.specs.Sides.{place_from, side_from, SideFor, FindsNone, Stays, IsSpent};
+ghost use Rattle.fl_history_rings.specs.Sides.{Puts, acknowledgement, TellsNothing, TellsSome, Misses, Sees};
+ghost use Rattle.fl_history_rings.specs.Sides.{Takes};
 
 use crate::board::{RingsBoard, RingsSeat, SideEnd};
 use crate::place::{SlotPlace, RingSide};
@@ -128,8 +129,8 @@ impl RingsCore {
     /// took.
     ///
     /// # Errors
-    /// The side has put 2^62 fragments (E33). Else fewer than two slots are known to be free, also after a look
-    /// at what stands first (E30): nothing was put, and the side knows what it saw there.
+    /// The side has put 2^62 fragments (E33). Else fewer than two slots are known to be free, also after a
+    /// look at what stands first (E30): nothing was put, and the side knows what it saw there.
     pub fn put(&mut self, side: &mut RingSide, frag: &Frag) -> Result<(), PutFault>
         requires mine { SideFor self.old side.old }
         ensures mine { SideFor self.new side.new }
@@ -137,6 +138,7 @@ impl RingsCore {
         ensures full { result ≡ Err PutFault.Full → FindsNone 2 self.old side.old side.new self.new }
         ensures spent { result ≡ Err PutFault.Spent
             → Stays self.old side.old side.new self.new × IsSpent side.old }
+        ensures spent_first { IsSpent side.old → result ≡ Err PutFault.Spent }
     {
         side.put(&self.board.table.shared, &mut self.seat, frag)
     }
@@ -165,8 +167,8 @@ impl RingsCore {
     /// that only acknowledges. Else it answers `Nothing`, and nothing has changed.
     ///
     /// # Errors
-    /// There is so much to tell, and the side has put 2^62 fragments, or no slot is known to be free, also after
-    /// a look (both E30, never E33): nothing was put.
+    /// There is so much to tell, and the side has put 2^62 fragments, or no slot is known to be free, also
+    /// after a look (both E30, never E33): nothing was put.
     pub fn tell(&mut self, side: &mut RingSide) -> Result<Told, PutFault>
         requires mine { SideFor self.old side.old }
         ensures mine { SideFor self.new side.new }
@@ -176,6 +178,7 @@ impl RingsCore {
             → Puts 1 self.old side.old acknowledgement side.new self.new }
         ensures full { result ≡ Err PutFault.Full → FindsNone 1 self.old side.old side.new self.new
             ⊎ (Stays self.old side.old side.new self.new × IsSpent side.old) }
+        ensures some { result ≢ Ok Told.Nothing → TellsSome side.old }
         ensures never_spent { result ≢ Err PutFault.Spent }
     {
         side.tell(&self.board.table.shared, &mut self.seat)

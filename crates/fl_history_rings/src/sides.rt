@@ -1,12 +1,14 @@
 //! The sides of rings, each of which steps with the seat of its core.
 
-ghost use Rattle.std.specs.Prelude.{◌≡◌, ◌≢◌, ◌⊎◌, ◌<◌, ◌^◌, ◌+◌, ◌≤◌, true, false, Ok, Err, OnOk, MatchOption};
+ghost use Rattle.std.specs.Prelude.{◌≡◌, ◌≢◌, ◌⊎◌, ◌<◌, ◌^◌, ◌+◌, ◌≤◌, true, false, Ok, Err, OnOk};
+ghost use Rattle.std.specs.Prelude.{MatchOption};
 ghost use Rattle.fl_history_rings.specs.declared.board.Action.TheVariants.{Put};
 ghost use Rattle.fl_history_rings.specs.declared.board.Insight.TheVariants.{Nothing};
 ghost use Rattle.fl_history_rings.specs.Seats.{IsSeated, view_at};
 ghost use Rattle.fl_history_rings.specs.Cores.{core_shown, noting};
-ghost use Rattle.fl_history_rings.specs.Sides.{StepsBy, HasFree, LacksFree, Looks, FindsRoom, counting, having_put, put_by};
-ghost use Rattle.fl_history_rings.specs.Sides.{acknowledgement, TellsNothing, FindsNone, Stays, IsSpent, Puts, Misses, Sees, Takes};
+ghost use Rattle.fl_history_rings.specs.Sides.{StepsBy, HasFree, LacksFree, Looks, FindsRoom, counting};
+ghost use Rattle.fl_history_rings.specs.Sides.{having_put, put_by, acknowledgement, TellsNothing, TellsSome};
+ghost use Rattle.fl_history_rings.specs.Sides.{FindsNone, Stays, IsSpent, Puts, Misses, Sees, Takes};
 
 use crate::board::{RingsSeat, RingsShared};
 use crate::place::RingSide;
@@ -121,6 +123,7 @@ impl RingSide {
             → FindsNone 2 (core_shown seat.old) self.old self.new (core_shown seat.new) }
         ensures spent { result ≡ Err PutFault.Spent
             → Stays (core_shown seat.old) self.old self.new (core_shown seat.new) × IsSpent self.old }
+        ensures spent_first { IsSpent self.old → result ≡ Err PutFault.Spent }
     {
         let index = self.put.cursor.index();
         if index == SPENT {
@@ -149,6 +152,7 @@ impl RingSide {
         ensures full { result ≡ Err PutFault.Full
             → FindsNone 1 (core_shown seat.old) self.old self.new (core_shown seat.new)
             ⊎ (Stays (core_shown seat.old) self.old self.new (core_shown seat.new) × IsSpent self.old) }
+        ensures some { result ≢ Ok Told.Nothing → TellsSome self.old }
         ensures never_spent { result ≢ Err PutFault.Spent }
     {
         let unacknowledged = self.take.cursor.index() - self.told;

@@ -59,7 +59,8 @@ pub(crate) fn put_frag(top: &RingsShared, seat: &mut RingsSeat, place: &SlotPlac
     requires rest { (view_at seat.old).knows ≡ Nothing }
     requires unspent { place.now.cursor.index < 2 ^ 62 }
     requires epoch { epoch_of frag.now.control ≡ epoch_at place.now.cursor.size place.now.cursor.index }
-    requires number { told_of frag.now.control ≡ length (takes_at place.now.side (view_at seat.old).steps) % 65536 }
+    requires number { told_of frag.now.control
+        ≡ length (takes_at place.now.side (view_at seat.old).steps) % 65536 }
     ensures seated { IsSeated top.now.table_id top.now.key seat.new }
     ensures noted { HasDone seat.old place.now.side (Put frag.now) seat.new }
 {

@@ -1,7 +1,7 @@
-use Rattle.std.proofs.Common.{◌∙◌, ◌⊎◌, inl, inr, subst}
+use Rattle.std.proofs.Common.{◌∙◌, ◌⊎◌, subst}
 use Rattle.std.specs.Arc.{arc_value}
 use Rattle.fl_history_rings.specs.Cores.{TheCore, core_shown}
-use Rattle.fl_history_rings.specs.Sides.{FindsRoom, FindsNone, Stays, IsSpent, Puts, acknowledgement}
+use Rattle.fl_history_rings.specs.Sides.{FindsNone, Stays, IsSpent, Puts, acknowledgement}
 use Rattle.fl_history_rings.proofs.SideCalls.{call_seated, call_steps, call_whole, called_steps}
 use Rattle.fl_history_rings.proofs.one_core.RingsCore.tell.Goals as goal
 

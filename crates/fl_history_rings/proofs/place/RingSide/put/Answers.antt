@@ -1,4 +1,4 @@
-use Rattle.std.proofs.Common.{◌≡◌, ◌∙◌, ap, sym, refl, arith, ℕ}
+use Rattle.std.proofs.Common.{◌≡◌, ◌∙◌, ap, sym, refl, arith}
 use Rattle.fl_history_rings.specs.declared.board.Action.TheVariants.{Put}
 use Rattle.fl_history_rings.specs.declared.place.SlotPlace.{SlotPlace}
 use Rattle.fl_history_rings.specs.Cores.{core_shown, noting}
@@ -28,6 +28,7 @@ returns-then-index-eq-SPENT c =
       placed = tt;
       full = λ e. absurd (cc);
       spent = λ e. ((refl, refl), sym same ∙ c.if-index-eq-SPENT.true);
+      spent_first = λ _. refl;
     }
 
 pub returns-then-not-find_room : goal.returns-then-not-find_room
@@ -41,6 +42,7 @@ returns-then-not-find_room c =
       placed = tt;
       full = λ e. (f.looked, f.full c.if-not-find_room.true);
       spent = λ e. absurd (cc);
+      spent_first = λ e. absurd (c.if-index-eq-SPENT.false (c.index-index.ensures.index ∙ e));
     }
 
 pub returns : goal.returns
@@ -54,7 +56,8 @@ returns c =
       rest = w.rest;
       core = w.core ∙ f.core;
       mine = w.mine;
-      placed = (between, mid, f.looked, w.noted ∙ ap (λ (p : SlotPlace). noting between p.side (Put (put_by mid c.args.frag.now))) (room_same 2 _ _ _ _ f.looked), w.side);
+      placed = (between, mid, f.looked, f.room c.if-not-find_room.false, w.noted ∙ ap (λ (p : SlotPlace). noting between p.side (Put (put_by mid c.args.frag.now))) (room_same 2 _ _ _ _ f.looked), w.side);
       full = λ e. absurd (cc);
       spent = λ e. absurd (cc);
+      spent_first = λ e. absurd (c.if-index-eq-SPENT.false (c.index-index.ensures.index ∙ e));
     }

@@ -1,4 +1,4 @@
-use Rattle.std.proofs.Common.{◌≡◌, ◌∙◌, ap, refl, subst, sym, arith}
+use Rattle.std.proofs.Common.{◌≡◌, ◌∙◌, ap, subst, sym, arith}
 use Rattle.fl_link.specs.Cursor.{TheCursor}
 use Rattle.fl_history_rings.specs.declared.place.RingSide.{RingSide}
 use Rattle.fl_history_rings.specs.Seats.{view_at}

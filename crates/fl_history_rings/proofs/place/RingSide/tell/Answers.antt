@@ -1,4 +1,4 @@
-use Rattle.std.proofs.Common.{◌≡◌, ◌∙◌, ap, sym, refl, arith, ℕ, inl, inr}
+use Rattle.std.proofs.Common.{◌≡◌, ◌∙◌, ap, sym, refl, arith, inl, inr}
 use Rattle.fl_history_rings.specs.declared.board.Action.TheVariants.{Put}
 use Rattle.fl_history_rings.specs.declared.place.SlotPlace.{SlotPlace}
 use Rattle.fl_history_rings.specs.Cores.{core_shown, noting}
@@ -18,6 +18,7 @@ returns-then-unacknowledged-size c = record {
   nothing = λ _. ((refl, refl), omega (arith, c.if-unacknowledged-size.true, c.index.ensures.index, c.size.ensures.size));
   written = λ e. absurd (cc);
   full = λ e. absurd (cc);
+  some = λ ne. absurd (ne refl);
   never_spent = λ e. absurd (cc);
 }
 
@@ -32,6 +33,7 @@ returns-then-index-eq-SPENT c =
       nothing = λ e. absurd (cc);
       written = λ e. absurd (cc);
       full = λ e. inr ((refl, refl), sym same ∙ c.if-index-eq-SPENT.true);
+      some = λ _. omega (arith, c.if-unacknowledged-size.false, c.index.ensures.index, c.size.ensures.size);
       never_spent = λ e. absurd (cc);
     }
 
@@ -49,6 +51,7 @@ returns-then-not-find_room c =
       nothing = λ e. absurd (cc);
       written = λ e. absurd (cc);
       full = λ e. inl (f.looked, f.full c.if-not-find_room.true);
+      some = λ _. omega (arith, c.if-unacknowledged-size.false, c.index.ensures.index, c.size.ensures.size);
       never_spent = λ e. absurd (cc);
     }
 
@@ -72,7 +75,8 @@ returns c =
       core = w.core ∙ f.core;
       mine = w.mine;
       nothing = λ e. absurd (cc);
-      written = λ _. (between, mid, f.looked, w.noted ∙ ap (λ (p : SlotPlace). noting between p.side (Put (put_by mid acknowledgement))) (room_same 1 _ _ _ _ f.looked), w.side);
+      written = λ _. (between, mid, f.looked, f.room c.if-not-find_room.false, w.noted ∙ ap (λ (p : SlotPlace). noting between p.side (Put (put_by mid acknowledgement))) (room_same 1 _ _ _ _ f.looked), w.side);
       full = λ e. absurd (cc);
+      some = λ _. omega (arith, c.if-unacknowledged-size.false, c.index.ensures.index, c.size.ensures.size);
       never_spent = λ e. absurd (cc);
     }

@@ -1,9 +1,8 @@
-use Rattle.std.proofs.Common.{◌≡◌, ◌∙◌, ap, subst, sym, refl, arith, ℕ, length, ◌%◌}
+use Rattle.std.proofs.Common.{◌≡◌, ◌∙◌, ap, subst, sym, arith, ℕ, length, ◌%◌}
 use Rattle.fl_base.specs.declared.fragment.Frag.{Frag}
 use Rattle.fl_base.specs.Control.{Fields, stamped}
 use Rattle.fl_link.specs.Cursor.{TheCursor, epoch_at}
 use Rattle.fl_history_rings.specs.declared.board.Action.TheVariants.{Put}
-use Rattle.fl_history_rings.specs.declared.place.SlotPlace.{SlotPlace}
 use Rattle.fl_history_rings.specs.declared.place.RingSide.{RingSide}
 use Rattle.fl_history_rings.specs.Rule.{takes_at}
 use Rattle.fl_history_rings.specs.Seats.{view_at}
