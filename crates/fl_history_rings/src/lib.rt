@@ -33,8 +33,8 @@ mod steps;
 pub use board::SideEnd;
 pub use gathering::Gathering;
 pub use law::{
-    law_known_was_taken, law_looks_find_what_stands, law_puts_find_room, law_puts_tell_what_was_taken,
-    law_sides_stay, law_taken_is_prefix,
+    law_known_was_taken, law_looks_find_what_stands, law_puts_find_room,
+    law_puts_tell_what_was_taken, law_sides_stay, law_taken_is_prefix,
 };
 pub use making::{CoresLeft, rings};
 pub use one_core::{Foreign, RingsCore};

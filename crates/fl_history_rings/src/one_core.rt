@@ -10,7 +10,7 @@ ghost use Rattle.fl_history_rings.specs.Sides.{Puts, acknowledgement, TellsNothi
 ghost use Rattle.fl_history_rings.specs.Sides.{Takes};
 
 use crate::board::{RingsBoard, RingsSeat, SideEnd};
-use crate::place::{SlotPlace, RingSide};
+use crate::place::{RingSide, SlotPlace};
 use fl_base::Frag;
 use fl_link::{Cursor, PutFault, Told};
 use std::alloc::Global;
