@@ -1,5 +1,5 @@
 -- What the rule allows a core by one of its sides, step by step.
-use Rattle.std.proofs.Common.{ℕ, zero, ◌≡◌, ◌≢◌, ◌<◌, ◌≤◌, ◌+◌, ◌*◌, ◌-◌, ◌%◌, ◌^◌, ◌==◌, ◌⊎◌, inl, inr, eq-eqb, List, [], ◌∷◌, ◌++◌, length, take, get_or, set, ap, subst, ◌∙◌, sym, refl, arith, length-set, length-append, append_assoc, get_or-set_other}
+use Rattle.std.proofs.Common.{Some, ℕ, zero, ◌≡◌, ◌≢◌, ◌<◌, ◌≤◌, ◌+◌, ◌*◌, ◌-◌, ◌%◌, ◌^◌, ◌==◌, ◌⊎◌, inl, inr, eq-eqb, List, [], ◌∷◌, ◌++◌, length, take, get_or, set, ap, subst, ◌∙◌, sym, refl, arith, length-set, length-append, append_assoc, get_or-set_other}
 use Rattle.std.proofs.lemmas.List.{append_cancel_left}
 use mathlib.Core.Logic.{dite}
 use mathlib.Core.Option.{some, none}
@@ -16,7 +16,7 @@ use Rattle.fl_ring.specs.SharedDuo.{BothRun, ways, side_found, side_stored, side
 use Rattle.fl_ring.specs.declared.shared.duo_board.SideView.{SideView}
 use Rattle.fl_ring.proofs.SharedTables.{Moves, allows_by, allows_load}
 use Rattle.fl_ring.proofs.SharedWays.{seen_due, loaded_whole}
-use Rattle.fl_ring.proofs.SharedDuos.{both_stored, both_put, both_found, both_control, known_sent, both_loaded, both_peeked, both_got, both_few}
+use Rattle.fl_ring.proofs.SharedDuos.{both_stored, both_put, both_found, both_control, known_sent, both_loaded, both_peeked, both_got, both_few, both_peeked_there, both_again}
 use Rattle.fl_history_rings.specs.declared.board.Action.{Action}
 use Rattle.fl_history_rings.specs.declared.board.Action.TheVariants.{Put, Found, Missed, Saw, Took}
 use Rattle.fl_history_rings.specs.declared.board.Entry.{Entry}
@@ -26,8 +26,8 @@ use Rattle.fl_history_rings.specs.declared.board.Insight.TheVariants.{Nothing, W
 use Rattle.fl_history_rings.specs.declared.board.CoreView.{CoreView}
 use Rattle.fl_history_rings.specs.declared.board.SeatView.{SeatView}
 use Rattle.fl_history_rings.specs.Rings.{mate, Way, way_with, Does, entry}
-use Rattle.fl_history_rings.specs.Rule.{first_word, putter_of, Lies, KnowsSide, Holds, Account, Fits, Held, RingsHold, view_of, seat_of, one_core, core_of, alone, puts_at, takes_at, known_at, due_at}
-use Rattle.fl_history_rings.specs.Rule.{finds_word, stores_word, stores_control, CountsSent, looks, counts, loads_word, sees_frag, takes_frag, OneOrder, compares}
+use Rattle.fl_history_rings.specs.Rule.{first_word, putter_of, Lies, KnowsSide, Holds, Account, Fits, Held, RingsHold, view_of, seat_of, one_core, core_of, alone, puts_at, takes_at, known_at, seen_at, due_at}
+use Rattle.fl_history_rings.specs.Rule.{finds_word, stores_word, stores_control, CountsSent, IsSeenControl, IsSeenFrag, looks, counts, loads_word, sees_frag, takes_frag, OneOrder, compares}
 use Rattle.fl_history_rings.specs.Seats.{put_insight}
 use Rattle.fl_history_rings.proofs.Logs.{within, there, then_is}
 use Rattle.fl_history_rings.proofs.Words.{mate_back, slot_putter, slots_here, slot_index, slot_inside}
@@ -286,6 +286,13 @@ module _ (ends : List SideEnd) (slots id s : ℕ) (end : SideEnd) (at : get_elem
           subst (λ (z : ℕ). count_from (known_at z did) (told_of v) ≤ length (puts_at z did)) (sym here)
           (subst (λ (z : ℕ). count_from z (told_of v) ≤ length (puts_at s did)) knows.known_is (subst (λ (l : List Frag). count_from ring.x.put.known (told_of v) ≤ length l) knows.sent_is so))
 
+      -- what was seen stands there
+      seen_so : IsSeenControl (step slots i 0 0 none) (one_core (seen Nothing)) v
+      seen_so = λ frag was.
+          let peeked : ring.x.take.peeked ≡ Some frag = knows.peeked_is ∙ (ap (λ (z : ℕ). seen_at z did) (sym here) ∙ was) in
+          let stands = both_peeked_there b c n 0 ws ring.x ring.y v ring.lies.runs there_is frag peeked in
+          (stands.0 ∙ sym due_is, stands.1)
+
       lies' : Lies b c n ws (side_control n ring.x v) ring.y ring.p ring.q
       lies' = record {
         runs = both_control b c n 0 ws ring.x ring.y v ring.lies.runs there_is;
@@ -314,10 +321,10 @@ module _ (ends : List SideEnd) (slots id s : ℕ) (end : SideEnd) (at : get_elem
         (λ due.
         goes_noted a ws ws Nothing fits held r (side_control n r.x x) r.p r.q (lies' ws a fits held) refl (λ z outside. refl) (Found x) (Reading s [] x) Then (first_there ws a fits held due)
         (learns_found ends core s did r.x n x (Reading s [] x) due refl (λ j ne. refl) (λ j q d e. (sym (reading_side s j x d [] q e), sym (reading_part s j x d [] q e), sym (reading_control s j x d [] q e))))
-        (sent_so ws a fits held, (λ _. ap (λ (z : ℕ). alone (view_of ends core (did ++ entry core z (Found x) ∷ []) (Reading z [] x))) (sym at_side)), (λ no. absurd (no (due ∙ sym so)))))
+        (sent_so ws a fits held, (λ _. ap (λ (z : ℕ). alone (view_of ends core (did ++ entry core z (Found x) ∷ []) (Reading z [] x))) (sym at_side)), (λ no. absurd (no (due ∙ sym so))), seen_so ws a fits held))
         (λ other.
         goes_noted a ws ws Nothing fits held r (side_control n r.x x) r.p r.q (lies' ws a fits held) refl (λ z outside. refl) Missed Nothing Then (none_there ws a fits held other) (learns_missed ends core s did r.x n x other)
-        (sent_so ws a fits held, (λ due. absurd (other (due ∙ so))), (λ _. ap (λ (z : ℕ). alone (view_of ends core (did ++ entry core z Missed ∷ []) Nothing)) (sym at_side))))
+        (sent_so ws a fits held, (λ due. absurd (other (due ∙ so))), (λ _. ap (λ (z : ℕ). alone (view_of ends core (did ++ entry core z Missed ∷ []) Nothing)) (sym at_side)), seen_so ws a fits held))
 
     pub allows_look : (me : Seated) → me ≡ alone (seen Nothing) → Allows (RingsHold ends) slots id me i (λ x. x) (looks (step slots i 0 0 none) me)
     allows_look me is_me =
@@ -386,6 +393,14 @@ module _ (ends : List SideEnd) (slots id s : ℕ) (end : SideEnd) (at : get_elem
       seventh : (x : SideView) (ws : List ℕ) → KnowsSide s (seen has) x → get_or ws i 0 ≡ get_or ws (slot c n (length x.take.got) + 6) 0
       seventh x ws knows = ap (λ (j : ℕ). get_or ws j 0) (word_is x knows ∙ ap (λ (m : ℕ). slot c n (length x.take.got) + m) (ap length (knows.loaded p x0 refl).0 ∙ six))
 
+      -- it is the one that was seen before
+      again : {ws : List ℕ} {cores : List CoreView} {held : Holds ends ws cores} (t : TheRing ends ws cores held s end) → BothRun (ways b c n 0) ws t.x t.y → KnowsSide s (seen has) t.x → (v : ℕ) → mate (putter_of ends i) ≡ s
+          → v ≡ get_or ws (slot c n (length t.x.take.got) + 6) 0 → IsSeenFrag (step slots i 0 0 none) (one_core (seen has)) v
+      again {ws} t runs knows v here is_there frag was =
+          let peeked : t.x.take.peeked ≡ Some frag = knows.peeked_is ∙ (ap (λ (z : ℕ). seen_at z did) (sym here) ∙ was) in
+          let whole : length t.x.take.part ≡ 6 = ap length (knows.loaded p x0 refl).0 ∙ six in
+          sym (loaded_so ends core s did t.x p x0 v knows) ∙ both_again b c n 0 ws t.x t.y v runs (is_due t.x knows) whole is_there frag peeked
+
       saw_moves : (ws : List ℕ) (a : Account) → Fits a id (one_core (seen has)) → Held ends ws a
           → Moves Fits (Held ends) a id ws (λ w. sees_frag (step slots i 0 0 none) (alone (seen has)) (get_or ws i 0) (w, []))
       saw_moves ws a fits held =
@@ -406,7 +421,7 @@ module _ (ends : List SideEnd) (slots id s : ℕ) (end : SideEnd) (at : get_elem
           }) refl (λ z outside. refl) (Saw frag) Nothing (λ w. sees_frag (step slots i 0 0 none) (alone (seen has)) v (w, []))
           (first.0, first.1, refl, refl)
           (learns_saw ends core s did t.x p x0 v)
-          (ap (λ (z : ℕ). alone (view_of ends core (did ++ entry core z (Saw frag) ∷ []) Nothing)) (sym here))
+          (ap (λ (z : ℕ). alone (view_of ends core (did ++ entry core z (Saw frag) ∷ []) Nothing)) (sym here), again t lies.runs knows v here (seventh t.x ws knows))
 
       pub allows_saw : (me : Seated) → me ≡ alone (seen has) → Allows (RingsHold ends) slots id me i (λ x. x) (sees_frag (step slots i 0 0 none) me)
       allows_saw me is_me =
@@ -441,6 +456,7 @@ module _ (ends : List SideEnd) (slots id s : ℕ) (end : SideEnd) (at : get_elem
           (learns_took ends core s did t.x p x0 v) (
             ap (λ (z : ℕ). alone (view_of ends core (did ++ entry core z (Took frag) ∷ []) Nothing)) (sym here),
             subst (λ (z : ℕ). length (takes_at z did) < 2 ^ 62) (sym here) (subst (λ (l : List Frag). length l < 2 ^ 62) knows.got_is few),
+            again t lies.runs knows v here (seventh t.x ws knows),
           )
 
       pub allows_took : (me : Seated) → me ≡ alone (seen has) → Allows (RingsHold ends) slots id me i (λ x. x) (takes_frag (step slots i 0 0 none) me)

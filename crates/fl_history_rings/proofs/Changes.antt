@@ -1,5 +1,5 @@
 -- What a core knows of its sides after a step of its own, by what it knew before.
-use Rattle.std.proofs.Common.{ℕ, ◌≡◌, ◌≢◌, ◌==◌, eq-eqb, ne_eqb, List, [], ◌∷◌, ◌++◌, length, ap, ◌∙◌, sym, refl}
+use Rattle.std.proofs.Common.{Option, Some, ℕ, ◌≡◌, ◌≢◌, ◌==◌, eq-eqb, ne_eqb, List, [], ◌∷◌, ◌++◌, length, ap, ◌∙◌, sym, refl}
 use Rattle.fl_base.specs.declared.fragment.Frag.{Frag}
 use Rattle.fl_base.specs.Control.{epoch_of, told_of}
 use Rattle.fl_link.specs.Cursor.{epoch_at}
@@ -16,9 +16,10 @@ use Rattle.fl_history_rings.specs.declared.board.Insight.{Insight}
 use Rattle.fl_history_rings.specs.declared.board.Insight.TheVariants.{Nothing, Writing, Reading}
 use Rattle.fl_history_rings.specs.declared.board.CoreView.{CoreView}
 use Rattle.fl_history_rings.specs.Rings.{entry}
-use Rattle.fl_history_rings.specs.Rule.{KnowsSide, part_at, part_in, gather, known_from, one_put, one_took, one_found, puts_at, takes_at, known_at, view_of}
+use Rattle.fl_history_rings.specs.Rule.{KnowsSide, part_at, part_in, gather, known_from, one_put, one_took, one_found, puts_at, takes_at, known_at, seen_at, view_of}
 use Rattle.fl_history_rings.specs.Seats.{put_insight}
 use Rattle.fl_history_rings.proofs.Logs.{then_is, else_is, gather_here, gather_else, not_gathered, known_push}
+use Rattle.fl_history_rings.proofs.Told.{seen_here, seen_else}
 use Rattle.fl_history_rings.proofs.Notes.{Learns}
 
 -- ---- what can't be both
@@ -83,6 +84,7 @@ module _ (ends : List SideEnd) (core s : ℕ) (did : List Entry) (x : SideView) 
       got_is = old.got_is;
       known_is = known ∙ old.known_is;
       part_is = part (old.part_is ∙ part_here s p) ∙ sym (writing_here s p');
+      peeked_is = old.peeked_is;
       loaded = λ q c e. absurd (writing_reading s s c p' q e);
     };
     beside = λ j v ne old. record {
@@ -90,6 +92,7 @@ module _ (ends : List SideEnd) (core s : ℕ) (did : List Entry) (x : SideView) 
       got_is = old.got_is;
       known_is = old.known_is;
       part_is = old.part_is ∙ (part_else s j p ne ∙ sym (writing_else s j p' ne));
+      peeked_is = old.peeked_is;
       loaded = λ q c e. absurd (writing_reading s j c p' q e);
     };
   }
@@ -103,6 +106,7 @@ module _ (ends : List SideEnd) (core s : ℕ) (did : List Entry) (x : SideView) 
       got_is = old.got_is;
       known_is = old.known_is;
       part_is = old.part_is;
+      peeked_is = old.peeked_is;
       loaded = λ q d e.
           let l = old.loaded p c refl in
           (ap (λ (ys : List ℕ). ys ++ v ∷ []) l.0 ∙ reading_part s s c d (p ++ v ∷ []) q e, l.1 ∙ reading_control s s c d (p ++ v ∷ []) q e);
@@ -112,6 +116,7 @@ module _ (ends : List SideEnd) (core s : ℕ) (did : List Entry) (x : SideView) 
       got_is = old.got_is;
       known_is = old.known_is;
       part_is = old.part_is;
+      peeked_is = old.peeked_is;
       loaded = λ q d e. absurd (ne (sym (reading_side s j c d (p ++ v ∷ []) q e)));
     };
   }
@@ -130,6 +135,7 @@ module _ (ends : List SideEnd) (core s : ℕ) (did : List Entry) (x : SideView) 
           got_is = old.got_is ∙ sym (gather_else one_took j did the_step away);
           known_is = old.known_is ∙ known_kept j did the_step (gather_else one_found j did the_step away);
           part_is = old.part_is ∙ parts;
+          peeked_is = old.peeked_is ∙ sym (seen_else j did the_step away);
           loaded = λ p c e. absurd (none p c e);
         }
 
@@ -144,12 +150,13 @@ module _ (ends : List SideEnd) (core s : ℕ) (did : List Entry) (x : SideView) 
 
     -- a noted step that puts, takes and finds nothing, after which nothing is in hand
     quiet : (x' : SideView) → one_put d ≡ [] → one_took d ≡ [] → one_found d ≡ [] → x'.put.sent ≡ x.put.sent → x'.take.got ≡ x.take.got → x'.put.known ≡ x.put.known → x'.put.part ≡ x.put.part → part_at s i ≡ [] → i' ≡ Nothing
-        → KnowsSide s (sees i) x → KnowsSide s (did_this d i') x'
-    quiet x' no_put no_took no_found sent got known part none rest old = record {
+        → x'.take.peeked ≡ seen_at s (did ++ the_step ∷ []) → KnowsSide s (sees i) x → KnowsSide s (did_this d i') x'
+    quiet x' no_put no_took no_found sent got known part none rest seen old = record {
       sent_is = sent ∙ old.sent_is ∙ sym (not_gathered one_put s did the_step no_put);
       got_is = got ∙ old.got_is ∙ sym (not_gathered one_took s did the_step no_took);
       known_is = known ∙ old.known_is ∙ known_kept s did the_step (not_gathered one_found s did the_step no_found);
       part_is = part ∙ old.part_is ∙ (none ∙ sym (ap (λ (z : Insight). part_at s z) rest));
+      peeked_is = seen;
       loaded = λ q c e. absurd (nothing_reading s q c (sym rest ∙ e));
     }
 
@@ -163,6 +170,7 @@ module _ (ends : List SideEnd) (core s : ℕ) (did : List Entry) (x : SideView) 
         got_is = old.got_is ∙ sym (not_gathered one_took s did e refl);
         known_is = old.known_is ∙ known_kept s did e (not_gathered one_found s did e refl);
         part_is = refl;
+        peeked_is = old.peeked_is ∙ sym (seen_here s did e refl);
         loaded = λ q d is. absurd (nothing_reading s q d is);
       })
 
@@ -183,6 +191,7 @@ module _ (ends : List SideEnd) (core s : ℕ) (did : List Entry) (x : SideView) 
         got_is = old.got_is ∙ sym (not_gathered one_took s did e refl);
         known_is = known_then n c due old.known_is;
         part_is = old.part_is ∙ sym none;
+        peeked_is = old.peeked_is ∙ sym (seen_here s did e refl);
         loaded = λ q d is. let r = reads s q d is in (sym r.1, sym r.2);
       })
 
@@ -190,19 +199,20 @@ module _ (ends : List SideEnd) (core s : ℕ) (did : List Entry) (x : SideView) 
   learns_missed n c other =
       let kept : known_by n x c ≡ x.put.known = else_is (epoch_of c == epoch_at n (length x.take.got)) (count_from x.put.known (told_of c)) x.put.known (ne_eqb (epoch_of c) (epoch_at n (length x.take.got)) other) in
       learns_noted Missed Nothing Nothing (side_control n x c) (λ j ne. refl) (λ j q d ne is. nothing_reading j q d is)
-      (λ old. quiet Missed Nothing Nothing (side_control n x c) refl refl refl refl refl kept refl refl refl old)
-
-  pub learns_saw : (p : List ℕ) (c v : ℕ) → Learns s (sees (Reading s p c)) (did_this (Saw (frag_from (p ++ v ∷ []) c)) Nothing) x (side_peeked x v)
-  learns_saw p c v =
-      let f : Frag = frag_from (p ++ v ∷ []) c in
-      learns_noted (Saw f) (Reading s p c) Nothing (side_peeked x v) (λ j ne. refl) (λ j q d ne is. nothing_reading j q d is)
-      (λ old. quiet (Saw f) (Reading s p c) Nothing (side_peeked x v) refl refl refl refl refl refl refl refl refl old)
+      (λ old. quiet Missed Nothing Nothing (side_control n x c) refl refl refl refl refl kept refl refl refl (old.peeked_is ∙ sym (seen_here s did (entry core s Missed) refl)) old)
 
   -- the fragment that is loaded, by what is in hand
   pub loaded_so : (p : List ℕ) (c v : ℕ) → KnowsSide s (sees (Reading s p c)) x → loaded_frag x.take v ≡ frag_from (p ++ v ∷ []) c
   loaded_so p c v old =
       let l = old.loaded p c refl in
       ap (λ (z : List ℕ). frag_from (z ++ v ∷ []) x.take.last) l.0 ∙ ap (λ (z : ℕ). frag_from (p ++ v ∷ []) z) l.1
+
+  pub learns_saw : (p : List ℕ) (c v : ℕ) → Learns s (sees (Reading s p c)) (did_this (Saw (frag_from (p ++ v ∷ []) c)) Nothing) x (side_peeked x v)
+  learns_saw p c v =
+      let f : Frag = frag_from (p ++ v ∷ []) c in
+      learns_noted (Saw f) (Reading s p c) Nothing (side_peeked x v) (λ j ne. refl) (λ j q d ne is. nothing_reading j q d is)
+      (λ old. quiet (Saw f) (Reading s p c) Nothing (side_peeked x v) refl refl refl refl refl refl refl refl refl
+      (ap (λ (g : Frag). let o : Option Frag = Some g in o) (loaded_so p c v old) ∙ sym (seen_here s did (entry core s (Saw f)) refl)) old)
 
   pub learns_took : (p : List ℕ) (c v : ℕ) → Learns s (sees (Reading s p c)) (did_this (Took (frag_from (p ++ v ∷ []) c)) Nothing) x (side_got x v)
   learns_took p c v =
@@ -215,5 +225,6 @@ module _ (ends : List SideEnd) (core s : ℕ) (did : List Entry) (x : SideView) 
         got_is = ap (λ (l : List Frag). l ++ loaded_frag x.take v ∷ []) old.got_is ∙ ap (λ (g : Frag). takes_at s did ++ g ∷ []) (loaded_so p c v old) ∙ sym (gather_here one_took s did e refl);
         known_is = old.known_is ∙ known_kept s did e (not_gathered one_found s did e refl);
         part_is = old.part_is;
+        peeked_is = sym (seen_here s did e refl);
         loaded = λ q d is. absurd (nothing_reading s q d is);
       })

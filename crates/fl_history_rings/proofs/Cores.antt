@@ -134,6 +134,18 @@ one_gathering board seat number whole =
       some_core = omega (arith, one);
     }
 
+-- a seat that is as it was
+pub kept_gathering : (board : RingsBoard) (old new : RingsSeat) → IsGathering board old → new.table_id ≡ old.table_id → new.me ≡ old.me → IsGathering board new
+kept_gathering board old new g same is =
+    let some_core = g.some_core in
+    let long : length new.me.0.cores ≡ length old.me.0.cores = ap (λ (m : Seated). length m.0.cores) is in
+    record { same = same ∙ g.same; some_words = g.some_words; none_held = ap (λ (m : Seated). m.1) is ∙ g.none_held; some_core = omega (arith, long, some_core) }
+
+pub kept_shown : (old new : RingsSeat) → new.table_id ≡ old.table_id → new.me ≡ old.me → gathering_shown new ≡ gathering_shown old
+kept_shown old new same is =
+    ap (λ (m : Seated). gathered new.table_id (core_of m.0) (map (shown new.table_id) m.0.cores)) is
+    ∙ ap (λ (z : TableId). gathered z (core_of old.me.0) (map (shown z) old.me.0.cores)) same
+
 -- what the seat of both holds
 pub both_gathering : (board : RingsBoard) (old new seat : RingsSeat) → IsGathering board old → new.table_id ≡ old.table_id → new.me ≡ (both_of old.me.0 seat.me.0, old.me.1) → IsGathering board new
 both_gathering board old new seat g same is =

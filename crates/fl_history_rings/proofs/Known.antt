@@ -190,4 +190,4 @@ known_taken = λ ends cores order before after is s one other at across.
     let told : told_at (mate s) before ≡ p.0.told = all.2 in
     let reach : known_at s before ≤ p.0.told = carries_reach (known_at s before) p.0.told q.0.waiting known.0 in
     let taken : p.0.told ≤ p.0.taken = known.1 in
-    (omega (arith, told, reach), omega (arith, told, taken, all.1))
+    (omega (arith, told, reach), omega (arith, reach, taken, all.1))

@@ -6,8 +6,11 @@ pub mod Changes
 pub mod Allowed
 pub mod Rows
 pub mod Payload
+pub mod Plans
 pub mod Makes
 pub mod Cores
 pub mod SideCalls
+pub mod Others
 pub mod Laws
 pub mod Known
+pub mod First

@@ -96,7 +96,7 @@ module _ (ends : List SideEnd) (count : ℕ) where
   new_knows_side : (c s : ℕ) (x : SideView) → get_elem? (replicate (length ends) new_side) s ≡ some x → KnowsSide s (at_rest ends c []) x
   new_knows_side c s x e =
       subst (λ (z : SideView). KnowsSide s (at_rest ends c []) z) (all_alike (length ends) s new_side x e)
-      (record { sent_is = refl; got_is = refl; known_is = refl; part_is = refl; loaded = λ p v no. absurd (nothing_reading s p v no) })
+      (record { sent_is = refl; got_is = refl; known_is = refl; part_is = refl; peeked_is = refl; loaded = λ p v no. absurd (nothing_reading s p v no) })
 
   new_knows : (c : ℕ) (h : CoreView) → get_elem? (fresh_cores ends 0 count) c ≡ some h → Knows ends (replicate (length ends) new_side) [] c h
   new_knows c h e =

@@ -1,5 +1,5 @@
 -- Steps in a row at a seat, at a place of one of its sides.
-use Rattle.std.proofs.Common.{ℕ, ◌≡◌, ◌≢◌, ◌<◌, ◌≤◌, ◌+◌, ◌*◌, ◌-◌, ◌%◌, ◌^◌, List, [], ◌∷◌, ◌++◌, length, take, set, ap, subst, ◌∙◌, sym, refl, arith}
+use Rattle.std.proofs.Common.{Some, ℕ, ◌≡◌, ◌≢◌, ◌<◌, ◌≤◌, ◌+◌, ◌*◌, ◌-◌, ◌%◌, ◌^◌, List, [], ◌∷◌, ◌++◌, length, take, set, ap, subst, ◌∙◌, sym, refl, arith}
 use Rattle.std.proofs.lemmas.List.{length_push}
 use mathlib.Core.Option.{some, none}
 use lib.ListN.{get_elem?}
@@ -24,10 +24,11 @@ use Rattle.fl_history_rings.specs.declared.board.Insight.TheVariants.{Nothing, W
 use Rattle.fl_history_rings.specs.declared.board.CoreView.{CoreView}
 use Rattle.fl_history_rings.specs.declared.place.SlotPlace.{SlotPlace}
 use Rattle.fl_history_rings.specs.Rings.{mate, entry}
-use Rattle.fl_history_rings.specs.Rule.{first_word, putter_of, RingsHold, view_of, knowing, with_action, one_core, core_of, alone, part_in, loaded_in, control_in, frag_in, puts_at, takes_at, known_at, one_took, due_at}
-use Rattle.fl_history_rings.specs.Rule.{finds_word, stores_word, stores_control, CountsSent, looks, counts, loads_word, sees_frag, takes_frag}
+use Rattle.fl_history_rings.specs.Rule.{first_word, putter_of, RingsHold, view_of, knowing, with_action, one_core, core_of, alone, part_in, loaded_in, control_in, frag_in, puts_at, takes_at, known_at, seen_at, one_took, due_at}
+use Rattle.fl_history_rings.specs.Rule.{finds_word, stores_word, stores_control, CountsSent, IsSeenControl, IsSeenFrag, looks, counts, loads_word, sees_frag, takes_frag}
 use Rattle.fl_history_rings.specs.Seats.{RingsSeat, view_at, put_insight, IsSeated, IsPutPlace, IsTakePlace, HasSlot, IsNextWord, IsReading, CountsWithin}
 use Rattle.fl_history_rings.proofs.Logs.{not_gathered}
+use Rattle.fl_history_rings.proofs.Told.{seen_here}
 use Rattle.fl_history_rings.proofs.Words.{mate_back, way_within, slot_putter, slots_here, slot_index}
 use Rattle.fl_history_rings.proofs.Changes.{part_in_put}
 use Rattle.fl_history_rings.proofs.Allowed.{Seated, allows_found, allows_stored, allows_put, allows_look, allows_count, allows_loaded, allows_saw, allows_took}
@@ -255,6 +256,11 @@ module _ (table : TableId) (plan : Plan) (seat : RingsSeat) (s : IsSeated table 
       pub counts_within : (slots x : ℕ) → CountsSent (step slots word 0 0 none) seat.me.0 x → epoch_of x ≡ epoch_at place.cursor.size place.cursor.index → CountsWithin (view_at seat) place.side x
       counts_within slots x told due = subst (λ (z : ℕ). count_from (known_at z h.steps) (told_of x) ≤ length (puts_at z h.steps)) here7 (told (due ∙ sym due_is))
 
+      -- what was seen stands there
+      pub again_control : (slots x : ℕ) → IsSeenControl (step slots word 0 0 none) seat.me.0 x → (frag : Frag) → seen_at place.side (view_at seat).steps ≡ Some frag
+          → (epoch_of x ≡ epoch_at place.cursor.size place.cursor.index) × (frag.control ≡ x)
+      again_control slots x told frag was = let stands = told frag (ap (λ (z : ℕ). seen_at z h.steps) here7 ∙ was) in (stands.0 ∙ due_is, stands.1)
+
     -- ---- payload words loaded, with these in hand
 
     module _ (part : List ℕ) (c : ℕ) (due : epoch_of c ≡ epoch_at place.cursor.size place.cursor.index) (me1 : Seated) (now : me1 ≡ alone (knowing (view_at seat) (Reading place.side part c))) (k word : ℕ) (len : length part ≡ k)
@@ -295,7 +301,7 @@ module _ (table : TableId) (plan : Plan) (seat : RingsSeat) (s : IsSeated table 
           ∙ ap (λ (y : ℕ). alone (with_action h y (d (frag_from (part ++ x ∷ []) c)) Nothing)) (take_here place pp word k (omega (arith, six)) is)
 
       pub after_see : k ≡ 6 → (slots x : ℕ) (me2 : Seated) → sees_frag (step slots word 0 0 none) me1 x me2 → me2 ≡ alone (with_action (view_at seat) place.side (Saw (frag_from (part ++ x ∷ []) c)) Nothing)
-      after_see six slots x me2 told = after_seventh (λ f. Saw f) x me2 six told
+      after_see six slots x me2 told = after_seventh (λ f. Saw f) x me2 six told.0
 
       pub after_take : k ≡ 6 → (slots x : ℕ) (me2 : Seated) → takes_frag (step slots word 0 0 none) me1 x me2
           → (me2 ≡ alone (with_action (view_at seat) place.side (Took (frag_from (part ++ x ∷ []) c)) Nothing)) × (place.cursor.index < 2 ^ 62)
@@ -305,6 +311,13 @@ module _ (table : TableId) (plan : Plan) (seat : RingsSeat) (s : IsSeated table 
           (subst (λ (m : Seated). length (takes_at (mate (putter_of (core_of m.0).sides word)) (core_of m.0).steps) < 2 ^ 62) now told.1) in
           let index = pp.index_is in
           (after_seventh (λ f. Took f) x me2 six told.0, omega (arith, few, index))
+
+      -- it is the one that was seen before
+      pub again_frag : (slots x : ℕ) → k ≡ 6 → IsSeenFrag (step slots word 0 0 none) me1.0 x → (frag : Frag) → seen_at place.side h.steps ≡ Some frag → frag_from (part ++ x ∷ []) c ≡ frag
+      again_frag slots x six told frag was =
+          let here = take_here place pp word k (omega (arith, six)) is in
+          let same : IsSeenFrag (step slots word 0 0 none) (one_core (knowing h (Reading place.side part c))) x = subst (λ (m : Seated). IsSeenFrag (step slots word 0 0 none) m.0 x) now told in
+          same frag (ap (λ (z : ℕ). seen_at z h.steps) here ∙ was)
 
 -- ---- the same place, once a fragment is found there
 
@@ -330,6 +343,11 @@ module _ (table : TableId) (plan : Plan) (old new : RingsSeat) (s : IsSeated tab
     in_hand = ap (λ (m : Seated). (core_of m.0).knows) is ∙ ap (λ (y : ℕ). Reading place.side [] y) (sym found_control);
     due = ap epoch_of found_control ∙ due;
   }
+
+  -- it has seen what it had
+  pub found_seen : (frag : Frag) → seen_at place.side (view_at old).steps ≡ Some frag → seen_at place.side (view_at new).steps ≡ Some frag
+  found_seen frag was =
+      ap (λ (m : Seated). seen_at place.side (core_of m.0).steps) is ∙ seen_here place.side (view_at old).steps (entry (view_at old).core place.side (Found c)) refl ∙ was
 
   -- what was done since
   pub found_then : (d : Action) (m : Seated) → m ≡ alone (with_action (view_at new) place.side d Nothing) → m ≡ alone (with_action (with_action (view_at old) place.side (Found c) Nothing) place.side d Nothing)

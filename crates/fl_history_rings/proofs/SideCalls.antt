@@ -22,8 +22,8 @@ use Rattle.fl_history_rings.specs.declared.place.RingSide.{RingSide}
 use Rattle.fl_history_rings.specs.Rings.{mate, entry}
 use Rattle.fl_history_rings.specs.Rule.{words_of, at_rest, with_action, core_of, alone, gather, known_from, one_put, one_took, one_found, puts_at, takes_at, known_at, told_at}
 use Rattle.fl_history_rings.specs.Seats.{RingsSeat, view_at, IsSeated, CountsWithin}
-use Rattle.fl_history_rings.specs.Cores.{TheCore, core_shown, noting, key_of, IsWhole, Owns, OwnsSlots}
-use Rattle.fl_history_rings.specs.Sides.{side_from, StepsBy, SideFor, HasFree, Looks, FindsRoom, counting, having_put, having_taken}
+use Rattle.fl_history_rings.specs.Cores.{TheCore, core_shown, noting, key_of, IsWhole, IsSameCore, Owns, OwnsSlots}
+use Rattle.fl_history_rings.specs.Sides.{side_from, StepsBy, SideFor, HasFree, LooksForRoom, FindsRoom, counting, having_put, having_taken}
 use Rattle.fl_history_rings.specs.Laws.{SidesStay}
 use Rattle.fl_history_rings.proofs.Logs.{within, same_there, gather_here, gather_else, not_gathered, known_push}
 use Rattle.fl_history_rings.proofs.Told.{told_put, told_else, told_still, told_taken}
@@ -238,7 +238,7 @@ module _ (ends : List SideEnd) (old new : RingsSeat) (a : RingSide) (same : new.
 pub room_same : (need : ℕ) (s : TheCore) (a a' : RingSide) (t : TheCore) → FindsRoom need s a a' t → a'.put ≡ a.put
 room_same need s a a' t h = by (cases_lt (a.known + a.put.cursor.size) (a.put.cursor.index + need))
   where
-    looked : Looks s a a' t → a'.put ≡ a.put
+    looked : LooksForRoom s a a' t → a'.put ≡ a.put
     looked (inl (_, same)) = ap (λ (x : RingSide). x.put) same
     looked (inr (c, _, same)) = ap (λ (x : RingSide). x.put) same
 
@@ -305,6 +305,13 @@ module _ (board b : RingsBoard) (seat : RingsSeat) (number : ℕ) (s : TheCore) 
       rest = rest;
       number_is = core ∙ whole.number_is;
       plan_is = whole.plan_is;
+    }
+
+    pub called_same : (view_at new).core ≡ (view_at seat).core → IsSameCore s (core_shown new)
+    called_same core = record {
+      table_is = seated.same ∙ sym call_seated.same ∙ ap (λ (x : TheCore). x.table) shows;
+      sides_are = sides_are b.table.shared.table_id (key_of b) new seated ∙ sym sides_so ∙ ap (λ (x : TheCore). x.sides) shows;
+      number_is = core ∙ ap (λ (x : TheCore). x.number) shows;
     }
 
     pub called_steps : (a : RingSide) → StepsBy (key_of b).sides.items (view_at new) a → SideFor (core_shown new) a

@@ -1,12 +1,12 @@
--- What a side told: all that it had taken when it put last.
-use Rattle.std.proofs.Common.{ℕ, ◌≡◌, ◌≢◌, ◌≤◌, ◌+◌, ◌==◌, Bool, true, false, if◌then◌else◌, List, [], ◌∷◌, ◌++◌, length, ap, ◌∙◌, sym, refl, arith, length-append}
+-- What a side told: all that it had taken when it put last. What it saw and didn't take.
+use Rattle.std.proofs.Common.{Option, Some, None, ℕ, ◌≡◌, ◌≢◌, ◌≤◌, ◌+◌, ◌==◌, Bool, true, false, if◌then◌else◌, List, [], ◌∷◌, ◌++◌, length, ap, ◌∙◌, sym, refl, arith, length-append}
 use mathlib.Core.Logic.{dite}
 use native.Mathlib.Decide.{ℕ_discrete}
 use Rattle.fl_base.specs.declared.fragment.Frag.{Frag}
 use Rattle.fl_history_rings.specs.declared.board.Action.{Action}
 use Rattle.fl_history_rings.specs.declared.board.Action.TheVariants.{Put, Found, Missed, Saw, Took}
 use Rattle.fl_history_rings.specs.declared.board.Entry.{Entry}
-use Rattle.fl_history_rings.specs.Rule.{gather, one_put, one_took, one_action, takes_at, told_from, told_at}
+use Rattle.fl_history_rings.specs.Rule.{gather, one_put, one_took, one_action, takes_at, told_from, told_at, seen_from, seen_at}
 use Rattle.fl_history_rings.proofs.Logs.{gather_here, gather_else}
 
 -- ---- actions in a row
@@ -86,3 +86,19 @@ told_still s es e none =
 -- what was told was taken
 pub told_taken : (s : ℕ) (es : List Entry) → told_at s es ≤ length (takes_at s es)
 told_taken s es = let low = told_low 0 0 (gather one_action s es) (omega arith) in omega (arith, low, takes_so s es)
+
+-- ---- what it saw
+
+seen_push : (seen : Option Frag) (ds : List Action) (d : Action) → seen_from seen (ds ++ d ∷ []) ≡ seen_from (seen_from seen ds) (d ∷ [])
+seen_push seen [] d = refl
+seen_push seen (Put frag ∷ ds) d = seen_push seen ds d
+seen_push seen (Found control ∷ ds) d = seen_push seen ds d
+seen_push seen (Missed ∷ ds) d = seen_push seen ds d
+seen_push seen (Saw frag ∷ ds) d = seen_push (Some frag) ds d
+seen_push seen (Took frag ∷ ds) d = seen_push None ds d
+
+pub seen_here : (s : ℕ) (es : List Entry) (e : Entry) → e.side ≡ s → seen_at s (es ++ e ∷ []) ≡ seen_from (seen_at s es) (e.action ∷ [])
+seen_here s es e here = ap (λ (ds : List Action). seen_from None ds) (gather_here one_action s es e here) ∙ seen_push None (gather one_action s es) e.action
+
+pub seen_else : (s : ℕ) (es : List Entry) (e : Entry) → e.side ≢ s → seen_at s (es ++ e ∷ []) ≡ seen_at s es
+seen_else s es e ne = ap (λ (ds : List Action). seen_from None ds) (gather_else one_action s es e ne)

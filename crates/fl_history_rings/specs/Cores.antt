@@ -5,6 +5,8 @@ use lib.ListN.{get_elem?}
 use Rattle.atomic_table.specs.Seated.{TableId}
 use Rattle.fl_history_rings.specs.declared.board.Action.{Action}
 use Rattle.fl_history_rings.specs.declared.board.Entry.{Entry}
+use Rattle.fl_ring.specs.Duo.{MayHaveSlots}
+use Rattle.fl_history_rings.specs.declared.board.RingEnds.{RingEnds}
 use Rattle.fl_history_rings.specs.declared.board.SideEnd.{SideEnd}
 use Rattle.fl_history_rings.specs.declared.board.Plan.{Plan}
 use Rattle.fl_history_rings.specs.declared.board.RingsBoard.{RingsBoard}
@@ -50,6 +52,12 @@ noting s side action = record {
   steps = s.steps ++ entry s.number side action ∷ [];
 }
 
+-- it is the same core, which may have done more
+pub record IsSameCore (s t : TheCore) : Type 0 where
+  pub table_is : t.table ≡ s.table
+  pub sides_are : t.sides ≡ s.sides
+  pub number_is : t.number ≡ s.number
+
 -- this side is this core's
 abbrev pub Owns : List SideEnd → ℕ → ℕ → Type 0
 Owns ends side core = (end : SideEnd) × (get_elem? ends side ≡ some end) × (end.core ≡ core)
@@ -60,6 +68,12 @@ OwnsSlots ends side core slots =
     (end : SideEnd) × (get_elem? ends side ≡ some end) × (end.core ≡ core) × (end.slots ≡ slots)
 
 -- ---- cores that are given out, one by one
+
+-- the ring has as many slots each way as a ring may have, and its sides are those of so many cores
+pub record IsRingOf (cores : ℕ) (ring : RingEnds) : Type 0 where
+  pub slots : MayHaveSlots ring.slots
+  pub first : ring.first < cores
+  pub second : ring.second < cores
 
 pub record TheCoresLeft : Type 0 where
   pub table : TableId
@@ -121,15 +135,18 @@ gathering_of c = record { table = c.table; sides = c.sides; cores = c ∷ [] }
 abbrev pub with_core : TheGathering → TheCore → TheGathering
 with_core g c = record { table = g.table; sides = g.sides; cores = g.cores ++ c ∷ [] }
 
--- One order of all that these cores did by all sides, from when the rings were empty: each step finds how its
--- ring stands at that moment, so that what is found, seen and taken is the fragment that stands first,
--- nothing is where a look finds nothing, and a fragment that is put finds a free slot and tells how many its
--- side had taken; each is a step of the core whose side it is; and of each of these cores it has all that it
--- did, in its order, and no more. Of other cores that the sides name it may have any steps.
+-- One order of all that these cores did by all sides, from when the rings were empty.
 pub record InOneOrder (ends : List SideEnd) (cores : List TheCore) : Type 0 where
   pub sides_are : (i : ℕ) (c : TheCore) → get_elem? cores i ≡ some c → c.sides ≡ ends
   pub log : List Entry
+  -- how the ways stand in the end
   pub queues : List Way
+  -- Each step finds how its ring stands at that moment: what is found, seen and taken is the fragment that
+  -- stands first, nothing is where a look finds nothing, and a fragment that is put finds a free slot and
+  -- tells how many its side had taken.
   pub runs : Runs (Goes ends) (all_empty (length ends)) log queues
+  -- each is a step of the core whose side it is
   pub by_its_core : (i : ℕ) (e : Entry) → get_elem? log i ≡ some e → IsByItsCore ends e
+  -- Of each of these cores it has all that it did, in its order, and no more. Of other cores that the sides
+  -- name it may have any steps.
   pub did : (i : ℕ) (c : TheCore) → get_elem? cores i ≡ some c → steps_of c.number log ≡ c.steps

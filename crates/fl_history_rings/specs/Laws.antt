@@ -48,8 +48,8 @@ PutsTellWhatWasTaken = (ends : List SideEnd) (cores : List TheCore) (order : InO
     → order.log ≡ before ++ entry core s (Put frag) ∷ after
     → told_of frag.control ≡ length (takes_at s before) % 65536
 
--- Law: a put finds a free slot. Its side put fewer fragments before than the other side had told, and the
--- slots.
+-- Law: a put finds a free slot. Its side put fewer fragments before than the slots and those that the other
+-- side had told, together.
 abbrev pub PutsFindRoom : Type 0
 PutsFindRoom = (ends : List SideEnd) (cores : List TheCore) (order : InOneOrder ends cores)
     (before after : List Entry) (core s : ℕ) (frag : Frag)
@@ -57,13 +57,38 @@ PutsFindRoom = (ends : List SideEnd) (cores : List TheCore) (order : InOneOrder 
     → (end : SideEnd) → get_elem? ends s ≡ some end
     → length (puts_at s before) < told_at (mate s) before + end.slots
 
--- Law: at each point of one order, what a side knows to be taken was told, and what was told was taken.
+-- Law: at each point of one order, what a side knows to be taken was told, and so it was taken.
 abbrev pub KnownWasTaken : Type 0
 KnownWasTaken = (ends : List SideEnd) (cores : List TheCore) (order : InOneOrder ends cores)
     (before after : List Entry) → order.log ≡ before ++ after
     → (s : ℕ) (one other : SideEnd) → get_elem? ends s ≡ some one → get_elem? ends (mate s) ≡ some other
     → (known_at s before ≤ told_at (mate s) before)
-    × (told_at (mate s) before ≤ length (takes_at (mate s) before))
+    × (known_at s before ≤ length (takes_at (mate s) before))
+
+-- this core is among these
+abbrev pub IsAmong : List TheCore → ℕ → Type 0
+IsAmong cores number = (i : ℕ) × (c : TheCore) × (get_elem? cores i ≡ some c) × (c.number ≡ number)
+
+-- all cores of these sides are
+abbrev pub AllAreAmong : List TheCore → List SideEnd → Type 0
+AllAreAmong cores ends = (s : ℕ) (end : SideEnd) → get_elem? ends s ≡ some end → IsAmong cores end.core
+
+-- Law: where all cores of the sides are among these, each step of one order is of one of these cores.
+abbrev pub NoOthers : Type 0
+NoOthers = (ends : List SideEnd) (cores : List TheCore) (order : InOneOrder ends cores)
+    → AllAreAmong cores ends → (i : ℕ) (e : Entry) → get_elem? order.log i ≡ some e → IsAmong cores e.core
+
+-- the first of these steps finds a fragment with this control word
+abbrev pub BeginsByFinding : List Entry → ℕ → Type 0
+BeginsByFinding steps control =
+    (core : ℕ) × (side : ℕ) × (rest : List Entry) × (steps ≡ entry core side (Found control) ∷ rest)
+
+-- Law: where all cores of the sides are among these, one of them doesn't begin by finding a fragment.
+abbrev pub NotAllBeginByFinding : Type 0
+NotAllBeginByFinding = (ends : List SideEnd) (cores : List TheCore) → InOneOrder ends cores → 0 < length cores
+    → AllAreAmong cores ends
+    → ((i : ℕ) (c : TheCore) → get_elem? cores i ≡ some c → (control : ℕ) × BeginsByFinding c.steps control)
+    → ⊥
 
 -- Law: what a core does by one side leaves its sides of other rings, and the other side of this one.
 abbrev pub SidesStay : Type 0

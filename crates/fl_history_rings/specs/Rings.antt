@@ -8,9 +8,18 @@ use Rattle.fl_base.specs.Control.{told_of}
 use Rattle.fl_history_rings.specs.declared.board.Action.{Action}
 use Rattle.fl_history_rings.specs.declared.board.Action.TheVariants.{Put, Found, Missed, Saw, Took}
 use Rattle.fl_history_rings.specs.declared.board.Entry.{Entry}
+use Rattle.fl_history_rings.specs.declared.board.RingEnds.{RingEnds}
 use Rattle.fl_history_rings.specs.declared.board.SideEnd.{SideEnd}
 
--- the other side of the ring: sides 0 and 1 are those of the first ring, 2 and 3 those of the next, and so on
+-- the sides of these rings: 0 and 1 are those of the first ring, 2 and 3 those of the next, and so on
+abbrev pub side_end : ℕ → ℕ → SideEnd
+side_end slots core = record { slots = slots; core = core }
+
+abbrev pub sides_of : List RingEnds → List SideEnd
+sides_of [] = []
+sides_of (r ∷ rs) = side_end r.slots r.first ∷ side_end r.slots r.second ∷ sides_of rs
+
+-- the other side of the ring
 abbrev pub mate : ℕ → ℕ
 mate zero = 1
 mate (suc zero) = 0

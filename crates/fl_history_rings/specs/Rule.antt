@@ -23,6 +23,7 @@
 -- Nobody keeps the history: the rule says that there is one.
 use Rattle.std.specs.Prelude.{ℕ, zero, suc, ◌≡◌, ◌+◌, ◌*◌, ◌-◌, ◌%◌, ◌≤◌, ◌<◌, ◌^◌, ◌==◌, nat_lt}
 use Rattle.std.specs.Prelude.{if◌then◌else◌, List, [], ◌∷◌, ◌++◌, length, take, slice_index_or}
+use Rattle.std.specs.Prelude.{Option, Some, None}
 use mathlib.Core.Option.{some}
 use lib.ListN.{get_elem?}
 use Rattle.atomic_table.specs.Table.{State, Me, Step}
@@ -124,7 +125,8 @@ known_from known (control ∷ more) = known_from (count_from known (told_of cont
 abbrev pub known_at : ℕ → List Entry → ℕ
 known_at s es = known_from 0 (gather one_found s es)
 
--- the number of fragments that are told once a side did this too: with a put it tells all that it took
+-- how many are told after these actions, where so many were taken and so many told before: with a put, all
+-- that were taken
 abbrev pub told_from : ℕ → ℕ → List Action → ℕ
 told_from taken told [] = told
 told_from taken told (Put frag ∷ more) = told_from taken taken more
@@ -132,6 +134,19 @@ told_from taken told (Found control ∷ more) = told_from taken told more
 told_from taken told (Missed ∷ more) = told_from taken told more
 told_from taken told (Saw frag ∷ more) = told_from taken told more
 told_from taken told (Took frag ∷ more) = told_from (taken + 1) told more
+
+-- the fragment that is seen and not taken, after these actions
+abbrev pub seen_from : Option Frag → List Action → Option Frag
+seen_from seen [] = seen
+seen_from seen (Put frag ∷ more) = seen_from seen more
+seen_from seen (Found control ∷ more) = seen_from seen more
+seen_from seen (Missed ∷ more) = seen_from seen more
+seen_from seen (Saw frag ∷ more) = seen_from (Some frag) more
+seen_from seen (Took frag ∷ more) = seen_from None more
+
+-- the fragment that side s has seen and not taken, if there is one
+abbrev pub seen_at : ℕ → List Entry → Option Frag
+seen_at s es = seen_from None (gather one_action s es)
 
 -- how many fragments side s told that it took: all that it had taken when it put last
 abbrev pub told_at : ℕ → List Entry → ℕ
@@ -175,12 +190,13 @@ control_in Nothing = 0
 control_in (Writing s part) = 0
 control_in (Reading s part control) = control
 
--- what a core did by side s, and what it knows, is what the side knows, as `fl_ring` has it
+-- of what a core did by side s and has in hand: what `fl_ring`'s view of the side has of it
 pub record KnowsSide (s : ℕ) (h : CoreView) (x : SideView) : Type 0 where
   pub sent_is : x.put.sent ≡ puts_at s h.steps
   pub got_is : x.take.got ≡ takes_at s h.steps
   pub known_is : x.put.known ≡ known_at s h.steps
   pub part_is : x.put.part ≡ part_at s h.knows
+  pub peeked_is : x.take.peeked ≡ seen_at s h.steps
   pub loaded : (part : List ℕ) (control : ℕ) → h.knows ≡ Reading s part control
       → (x.take.part ≡ part) × (x.take.last ≡ control)
 
@@ -350,13 +366,19 @@ CountsSent st v x = IsDueAt st v x
     → count_from (known_at (taker_at st v) (core_of v).steps) (told_of x)
     ≤ length (puts_at (taker_at st v) (core_of v).steps)
 
+-- what was seen and not taken stands there: it has this control word
+abbrev pub IsSeenControl : Step (Unit {0}) → SeatView → ℕ → Type 0
+IsSeenControl st v x = (frag : Frag) → seen_at (taker_at st v) (core_of v).steps ≡ Some frag
+    → IsDueAt st v x × (frag.control ≡ x)
+
 -- there is a fragment, or there is none, which are both noted
 abbrev pub looks : Player
 looks st m x m' = CountsSent st m.0 x
     × (IsDueAt st m.0 x → m' ≡ then_did m (taker_at st m.0) (Found x) (Reading (taker_at st m.0) [] x))
     × (¬ (IsDueAt st m.0 x) → m' ≡ then_did m (taker_at st m.0) Missed Nothing)
+    × IsSeenControl st m.0 x
 
--- the same, and the fragment is not read on
+-- the same for room, and the fragment is not read on
 abbrev pub counts : Player
 counts st m x m' = CountsSent st m.0 x
     × (IsDueAt st m.0 x → m' ≡ then_did m (taker_at st m.0) (Found x) Nothing)
@@ -371,15 +393,20 @@ loads_word st m x m' =
 abbrev pub frag_in : Insight → ℕ → Frag
 frag_in insight x = frag_from (loaded_in insight ++ x ∷ []) (control_in insight)
 
+-- it is the one that was seen before, if one was
+abbrev pub IsSeenFrag : Step (Unit {0}) → SeatView → ℕ → Type 0
+IsSeenFrag st v x = (frag : Frag) → seen_at (taker_at st v) (core_of v).steps ≡ Some frag
+    → frag_in (core_of v).knows x ≡ frag
+
 -- it was seen, or taken, which is noted
 abbrev pub sees_frag : Player
 sees_frag st m x m' =
-    m' ≡ then_did m (taker_at st m.0) (Saw (frag_in (in_hand m) x)) Nothing
+    (m' ≡ then_did m (taker_at st m.0) (Saw (frag_in (in_hand m) x)) Nothing) × IsSeenFrag st m.0 x
 
 abbrev pub takes_frag : Player
 takes_frag st m x m' =
     (m' ≡ then_did m (taker_at st m.0) (Took (frag_in (in_hand m) x)) Nothing)
-    × (length (takes_at (taker_at st m.0) (core_of m.0).steps) < 2 ^ 62)
+    × (length (takes_at (taker_at st m.0) (core_of m.0).steps) < 2 ^ 62) × IsSeenFrag st m.0 x
 
 -- One order of all that was done at these rings, from when all were empty: each step finds how its ring
 -- stands at that moment, is of its side's core, and what these cores did are their steps in it.

@@ -1,5 +1,5 @@
 -- The sides of rings, beside the seat of their core, and what their calls add to what the core did.
-use Rattle.std.specs.Prelude.{ℕ, ◌≡◌, ◌+◌, ◌-◌, ◌/◌, ◌%◌, ◌≤◌, ◌<◌, ◌^◌, ◌⊎◌, List, replicate}
+use Rattle.std.specs.Prelude.{ℕ, ◌≡◌, ◌≢◌, ◌+◌, ◌-◌, ◌/◌, ◌%◌, ◌≤◌, ◌<◌, ◌^◌, ◌⊎◌, List}
 use Rattle.fl_base.specs.declared.fragment.Frag.{Frag}
 use Rattle.fl_base.specs.Control.{stamped, told_of}
 use Rattle.fl_link.specs.Cursor.{epoch_at}
@@ -58,14 +58,14 @@ abbrev pub counting : RingSide → ℕ → RingSide
 counting a control = record a { known = count_from a.known (told_of control) }
 
 -- a look at what stands first: nothing does, or a fragment whose control word tells a count
-abbrev pub Looks : TheCore → RingSide → RingSide → TheCore → Type 0
-Looks s a a' t = ((t ≡ noting s a.put.side Missed) × (a' ≡ a))
+abbrev pub LooksForRoom : TheCore → RingSide → RingSide → TheCore → Type 0
+LooksForRoom s a a' t = ((t ≡ noting s a.put.side Missed) × (a' ≡ a))
     ⊎ ((control : ℕ) × (t ≡ noting s a.put.side (Found control)) × (a' ≡ counting a control))
 
 -- The side counts its free slots. It looks only where what it knows leaves too few.
 pub record FindsRoom (need : ℕ) (s : TheCore) (a a' : RingSide) (t : TheCore) : Type 0 where
   pub by_known : HasFree need a → (t ≡ s) × (a' ≡ a)
-  pub by_look : LacksFree need a → Looks s a a' t
+  pub by_look : LacksFree need a → LooksForRoom s a a' t
 
 -- the place behind this one
 abbrev pub next_place : SlotPlace → SlotPlace
@@ -93,10 +93,6 @@ Puts need s a frag a' t = (between : TheCore) × (mid : RingSide)
     × FindsRoom need s a mid between × HasFree need mid
     × (t ≡ noting between a.put.side (Put (put_by mid frag))) × (a' ≡ having_put mid)
 
--- the fragment that only acknowledges
-abbrev pub acknowledgement : Frag
-acknowledgement = record { words = replicate 7 0; control = 4 }
-
 -- so much is taken and not acknowledged: less than half of the slots, or at least half
 abbrev pub TellsNothing : RingSide → Type 0
 TellsNothing a = a.take.cursor.index - a.told < a.take.cursor.size / 2
@@ -107,6 +103,11 @@ TellsSome a = a.take.cursor.size / 2 ≤ a.take.cursor.index - a.told
 -- fewer slots than so many are free, also after a look
 abbrev pub FindsNone : ℕ → TheCore → RingSide → RingSide → TheCore → Type 0
 FindsNone need s a a' t = FindsRoom need s a a' t × LacksFree need a'
+
+-- A call by side a leaves a': it has the same number, and the core's sides of other numbers are as they were.
+pub record LeavesOthers (a a' : RingSide) (s t : TheCore) : Type 0 where
+  pub number : a'.put.side ≡ a.put.side
+  pub others : (b : RingSide) → b.put.side ≢ a.put.side → SideFor s b → SideFor t b
 
 -- nothing was done
 abbrev pub Stays : TheCore → RingSide → RingSide → TheCore → Type 0

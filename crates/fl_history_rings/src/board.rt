@@ -26,11 +26,22 @@ pub struct Entry {
     pub action: Action,
 }
 
-/// A side of a ring: how many slots it puts fragments into, and the core whose it is. Sides 2k and 2k + 1
-/// are those of ring k, with as many slots each.
+/// A ring: how it is to be made.
+#[derive(Clone, Copy)]
+pub struct RingEnds {
+    /// How many slots it has each way.
+    pub slots: usize,
+    /// The core of its first side, and that of its second.
+    pub first: usize,
+    pub second: usize,
+}
+
+/// A side of a ring.
 #[derive(Drop)]
 pub struct SideEnd {
+    /// How many slots it puts fragments into.
     pub slots: usize,
+    /// The core whose it is.
     pub core: usize,
 }
 

@@ -59,10 +59,10 @@ impl Gathering {
     }
 
     /// All that these cores did, by all their sides, has one order.
-    pub fn settle(self)
-        ensures order { InOneOrder self.sides self.cores }
+    pub fn settle(&mut self)
+        ensures same { self.new ≡ self.old }
+        ensures order { InOneOrder self.old.sides self.old.cores }
     {
-        let Gathering { board, mut seat } = self;
-        board.table.shared.load::<Compare>(&mut seat, 0);
+        self.board.table.shared.load::<Compare>(&mut self.seat, 0);
     }
 }

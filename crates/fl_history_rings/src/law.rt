@@ -1,7 +1,8 @@
 //! What one order of all steps by all sides tells: laws, as contracts of functions that do nothing.
 
 ghost use Rattle.fl_history_rings.specs.Laws.{TakenIsPrefix, LooksFindWhatStands, PutsTellWhatWasTaken};
-ghost use Rattle.fl_history_rings.specs.Laws.{PutsFindRoom, KnownWasTaken, SidesStay};
+ghost use Rattle.fl_history_rings.specs.Laws.{PutsFindRoom, KnownWasTaken, NoOthers};
+ghost use Rattle.fl_history_rings.specs.Laws.{NotAllBeginByFinding, SidesStay};
 
 /// In one order of all that cores did, what one side of a ring took is a prefix of what the other put: of a
 /// ring whose two cores are among these, by what they did themselves.
@@ -22,14 +23,25 @@ pub fn law_puts_tell_what_was_taken()
 {}
 
 /// In one order of all that cores did, each put finds a free slot: its side has put fewer fragments than the
-/// other side had told that it took, and the slots.
+/// slots and those that the other side had told, together.
 pub fn law_puts_find_room()
     ensures room { PutsFindRoom }
 {}
 
-/// At each point of one order, what a side knows to be taken was told, and what was told was taken.
+/// At each point of one order, what a side knows to be taken was told, and so it was taken.
 pub fn law_known_was_taken()
     ensures known { KnownWasTaken }
+{}
+
+/// Where all cores of the sides are gathered, each step of one order is of one of them.
+pub fn law_no_others()
+    ensures others { NoOthers }
+{}
+
+/// Where all cores of the sides are gathered, it never happens that each begins with a step that finds a
+/// fragment. No fact about one ring by itself rules that out.
+pub fn law_not_all_begin_by_finding()
+    ensures first { NotAllBeginByFinding }
 {}
 
 /// What a core does by one side leaves its other sides.

@@ -6,8 +6,16 @@
 //! makes its steps by all its sides. The rule of the table (`specs/Rule.antt`) says that there is a list of
 //! what was done so far, by any side; a core knows what it did itself. A fragment is put by the store of its
 //! control word, and found by its load; payload words that are found, stored or loaded are steps that aren't
-//! noted. No clause says that the list is in the order of time, nor that a look loads: the kinds of step in
-//! `plays.rt` are part of what is promised.
+//! noted. The kinds of step in `plays.rt` are part of what is promised.
+//!
+//! No clause says
+//! - that a core steps, nor that a look finds what was put long ago: one that takes and neither puts nor
+//!   acknowledges leaves the other side full for ever
+//! - that the order is that of time, nor that it only grows: cores that are gathered have one order, and
+//!   those of another gathering have another. So gather all cores, and settle then
+//! - what a core did that isn't among those gathered: the order may have any steps of it
+//!
+//! A fragment may be found for room alone, without being seen or taken.
 //!
 //! - `board.rt`: the views and the rule
 //! - `plays.rt`: the kinds of step
@@ -30,11 +38,11 @@ mod plays;
 mod sides;
 mod steps;
 
-pub use board::SideEnd;
+pub use board::{RingEnds, SideEnd};
 pub use gathering::Gathering;
 pub use law::{
-    law_known_was_taken, law_looks_find_what_stands, law_puts_find_room,
-    law_puts_tell_what_was_taken, law_sides_stay, law_taken_is_prefix,
+    law_known_was_taken, law_looks_find_what_stands, law_no_others, law_not_all_begin_by_finding,
+    law_puts_find_room, law_puts_tell_what_was_taken, law_sides_stay, law_taken_is_prefix,
 };
 pub use making::{CoresLeft, rings};
 pub use one_core::{Foreign, RingsCore};

@@ -1,11 +1,14 @@
 //! Rings made, and the cores at them given out.
 
-ghost use Rattle.std.specs.Prelude.{ℕ, ◌≡◌, ◌+◌, ◌*◌, ◌<◌, ◌≤◌, [], take, IfOk, IfSome, OnErr, MatchOption};
+ghost use Rattle.std.specs.Prelude.{ℕ, ◌≡◌, ◌+◌, ◌*◌, ◌<◌, ◌≤◌, [], ◌∷◌, ◌++◌, IfOk, IfSome, OnOk, OnErr};
+ghost use Rattle.std.specs.Prelude.{MatchOption};
+ghost use Rattle.std.specs.List.{AllByRecursion};
+ghost use Rattle.fl_history_rings.specs.Rings.{sides_of};
 ghost use Rattle.fl_history_rings.specs.Rule.{words_of, first_view, ArePaired};
 ghost use Rattle.fl_history_rings.specs.Seats.{IsLaid, HaveSlots};
-ghost use Rattle.fl_history_rings.specs.Cores.{all_left, next_core, without_next};
+ghost use Rattle.fl_history_rings.specs.Cores.{IsRingOf, all_left, next_core, without_next};
 
-use crate::board::{Plan, RingsBoard, RingsSeat, RingsTable, SideEnd};
+use crate::board::{Plan, RingEnds, RingsBoard, RingsSeat, RingsTable, SideEnd};
 use crate::one_core::RingsCore;
 use crate::plays::PartCores;
 use std::alloc::{AllocError, Global};
@@ -31,11 +34,52 @@ impl Model for CoresLeft {
     ghost invariant = { λ s. AreLeft (arc_value s.board) s.seat s.next };
 }
 
-/// New rings, all empty, whose sides are these, and so many cores at them.
+/// New rings, all empty, and so many cores at them. Sides 2k and 2k + 1 are those of ring k.
 ///
 /// # Errors
-/// Out of memory.
-pub fn rings(alloc: Global, sides: Vec<SideEnd>, cores: usize) -> Result<CoresLeft, AllocError>
+/// Out of memory, also where the slots are more than a word can count.
+pub fn rings(alloc: Global, rings: &[RingEnds], cores: usize) -> Result<CoresLeft, AllocError>
+    requires rings { AllByRecursion (IsRingOf cores) rings.now }
+    ensures left { IfOk result (λ left. left ≡ all_left left.table (sides_of rings.now) cores) }
+{
+    let Ok(sides) = sides_of(alloc, rings) else {
+        return Err(AllocError);
+    };
+    lay(alloc, sides, cores)
+}
+
+// The sides of these rings, two by two.
+fn sides_of(alloc: Global, rings: &[RingEnds]) -> Result<Vec<SideEnd>, AllocError>
+    ensures sides { IfOk result (λ sides. sides.items ≡ sides_of rings.now) }
+{
+    let mut sides = Vec::new(alloc);
+    for k in 0..rings.len() {
+        let ring = rings[k];
+        let Ok(()) = push_both(&mut sides, ring) else {
+            return Err(AllocError);
+        };
+    }
+    Ok(sides)
+}
+
+// Both sides of a ring more.
+fn push_both(sides: &mut Vec<SideEnd>, ring: RingEnds) -> Result<(), AllocError>
+    ensures more { OnOk result (sides.new.items ≡ sides.old.items ++ sides_of (ring ∷ [])) }
+{
+    let slots = ring.slots;
+    sides.push(SideEnd {
+        slots,
+        core: ring.first,
+    })?;
+    sides.push(SideEnd {
+        slots,
+        core: ring.second,
+    })?;
+    Ok(())
+}
+
+// The table of these sides.
+fn lay(alloc: Global, sides: Vec<SideEnd>, cores: usize) -> Result<CoresLeft, AllocError>
     requires slots { HaveSlots sides.items }
     requires paired { ArePaired sides.items }
     ensures left { IfOk result (λ left. left ≡ all_left left.table sides.items cores) }

@@ -1,13 +1,16 @@
 //! A core at the rings.
 
-ghost use Rattle.std.specs.Prelude.{ℕ, ◌≡◌, ◌≢◌, ◌^◌, ◌*◌, ◌<◌, ◌⊎◌, [], length, Ok, Err, IfSome, IsNone};
-ghost use Rattle.std.specs.Prelude.{OnOk, MatchOption, MatchResult};
+ghost use Rattle.std.specs.Prelude.{ℕ, ◌≡◌, ◌≢◌, ◌^◌, ◌*◌, ◌<◌, ◌⊎◌, [], length, Ok, Err, IfSome};
+ghost use Rattle.std.specs.Prelude.{IsNone, false, Some, OnOk, MatchOption, MatchResult};
+ghost use Rattle.fl_base.specs.Control.{is_ack_only};
+ghost use Rattle.fl_ring.specs.Duo.{acknowledgement};
 ghost use Rattle.fl_history_rings.specs.Rings.{mate};
-ghost use Rattle.fl_history_rings.specs.Rule.{words_of, first_word};
-ghost use Rattle.fl_history_rings.specs.Cores.{Owns, OwnsSlots};
+ghost use Rattle.fl_base.specs.declared.fragment.Frag.{Frag};
+ghost use Rattle.fl_history_rings.specs.Rule.{words_of, first_word, seen_at};
+ghost use Rattle.fl_history_rings.specs.Cores.{Owns, OwnsSlots, IsSameCore};
 ghost use Rattle.fl_history_rings.specs.Sides.{place_from, side_from, SideFor, FindsNone, Stays, IsSpent};
-ghost use Rattle.fl_history_rings.specs.Sides.{Puts, acknowledgement, TellsNothing, TellsSome, Misses, Sees};
-ghost use Rattle.fl_history_rings.specs.Sides.{Takes};
+ghost use Rattle.fl_history_rings.specs.Sides.{Puts, TellsNothing, TellsSome, Misses, Sees};
+ghost use Rattle.fl_history_rings.specs.Sides.{Takes, LeavesOthers};
 
 use crate::board::{RingsBoard, RingsSeat, SideEnd};
 use crate::place::{RingSide, SlotPlace};
@@ -125,15 +128,18 @@ impl RingsCore {
         Ok(first_side(sides, side, slots))
     }
 
-    /// Puts the fragment by one of this core's sides, with the epoch due and the number of all that the side
-    /// took.
+    /// Puts the fragment, one of data, by one of this core's sides, with the epoch due and the number
+    /// of all that the side took.
     ///
     /// # Errors
     /// The side has put 2^62 fragments (E33). Else fewer than two slots are known to be free, also after a
     /// look at what stands first (E30): nothing was put, and the side knows what it saw there.
     pub fn put(&mut self, side: &mut RingSide, frag: &Frag) -> Result<(), PutFault>
         requires mine { SideFor self.old side.old }
+        requires data { is_ack_only frag.now ≡ false }
+        ensures same { IsSameCore self.old self.new }
         ensures mine { SideFor self.new side.new }
+        ensures beside { LeavesOthers side.old side.new self.old self.new }
         ensures placed { OnOk result (Puts 2 self.old side.old frag.now side.new self.new) }
         ensures full { result ≡ Err PutFault.Full → FindsNone 2 self.old side.old side.new self.new }
         ensures spent { result ≡ Err PutFault.Spent
@@ -143,22 +149,32 @@ impl RingsCore {
         side.put(&self.board.table.shared, &mut self.seat, frag)
     }
 
-    /// The fragment that stands first, which is left there.
+    /// The fragment that stands first, which is left there: where one was seen by this side and not taken
+    /// yet, that one. It may be one that only acknowledges.
     pub fn look(&mut self, side: &mut RingSide) -> Option<Frag>
         requires mine { SideFor self.old side.old }
+        ensures same { IsSameCore self.old self.new }
         ensures mine { SideFor self.new side.new }
+        ensures beside { LeavesOthers side.old side.new self.old self.new }
         ensures noted { MatchOption result (Misses self.old side.old side.new self.new)
             (λ frag. Sees self.old side.old frag side.new self.new) }
+        ensures again { (frag : Frag) → seen_at side.old.put.side self.old.steps ≡ Some frag
+            → result ≡ Some frag }
     {
         side.look(&self.board.table.shared, &mut self.seat)
     }
 
-    /// The fragment that stands first, which is taken. Its slot isn't free before it is acknowledged.
+    /// The fragment that stands first, which is taken: where one was seen by this side and not taken yet,
+    /// that one. It may be one that only acknowledges. Its slot isn't free before it is acknowledged.
     pub fn take(&mut self, side: &mut RingSide) -> Option<Frag>
         requires mine { SideFor self.old side.old }
+        ensures same { IsSameCore self.old self.new }
         ensures mine { SideFor self.new side.new }
+        ensures beside { LeavesOthers side.old side.new self.old self.new }
         ensures noted { MatchOption result (Misses self.old side.old side.new self.new)
             (λ frag. Takes self.old side.old frag side.new self.new) }
+        ensures again { (frag : Frag) → seen_at side.old.put.side self.old.steps ≡ Some frag
+            → result ≡ Some frag }
     {
         side.take(&self.board.table.shared, &mut self.seat)
     }
@@ -171,7 +187,9 @@ impl RingsCore {
     /// after a look (both E30, never E33): nothing was put.
     pub fn tell(&mut self, side: &mut RingSide) -> Result<Told, PutFault>
         requires mine { SideFor self.old side.old }
+        ensures same { IsSameCore self.old self.new }
         ensures mine { SideFor self.new side.new }
+        ensures beside { LeavesOthers side.old side.new self.old self.new }
         ensures nothing { result ≡ Ok Told.Nothing
             → Stays self.old side.old side.new self.new × TellsNothing side.old }
         ensures written { result ≡ Ok Told.Written

@@ -1,13 +1,16 @@
 //! The sides of rings, each of which steps with the seat of its core.
 
 ghost use Rattle.std.specs.Prelude.{◌≡◌, ◌≢◌, ◌⊎◌, ◌<◌, ◌^◌, ◌+◌, ◌≤◌, true, false, Ok, Err, OnOk};
-ghost use Rattle.std.specs.Prelude.{MatchOption};
+ghost use Rattle.std.specs.Prelude.{Some, MatchOption};
+ghost use Rattle.fl_base.specs.declared.fragment.Frag.{Frag};
+ghost use Rattle.fl_ring.specs.Duo.{acknowledgement};
 ghost use Rattle.fl_history_rings.specs.declared.board.Action.TheVariants.{Put};
 ghost use Rattle.fl_history_rings.specs.declared.board.Insight.TheVariants.{Nothing};
+ghost use Rattle.fl_history_rings.specs.Rule.{seen_at};
 ghost use Rattle.fl_history_rings.specs.Seats.{IsSeated, view_at};
 ghost use Rattle.fl_history_rings.specs.Cores.{core_shown, noting};
-ghost use Rattle.fl_history_rings.specs.Sides.{StepsBy, HasFree, LacksFree, Looks, FindsRoom, counting};
-ghost use Rattle.fl_history_rings.specs.Sides.{having_put, put_by, acknowledgement, TellsNothing, TellsSome};
+ghost use Rattle.fl_history_rings.specs.Sides.{StepsBy, HasFree, LacksFree, LooksForRoom, FindsRoom};
+ghost use Rattle.fl_history_rings.specs.Sides.{counting, having_put, put_by, TellsNothing, TellsSome};
 ghost use Rattle.fl_history_rings.specs.Sides.{FindsNone, Stays, IsSpent, Puts, Misses, Sees, Takes};
 
 use crate::board::{RingsSeat, RingsShared};
@@ -51,7 +54,7 @@ impl RingSide {
         ensures rest { (view_at seat.new).knows ≡ Nothing }
         ensures core { (view_at seat.new).core ≡ (view_at seat.old).core }
         ensures mine { StepsBy top.now.key.sides.items (view_at seat.new) self.new }
-        ensures looked { Looks (core_shown seat.old) self.old self.new (core_shown seat.new) }
+        ensures looked { LooksForRoom (core_shown seat.old) self.old self.new (core_shown seat.new) }
     {
         let Some(control) = count(top, seat, &self.take) else {
             return;
@@ -182,6 +185,8 @@ impl RingSide {
         ensures noted { MatchOption result
             (Misses (core_shown seat.old) self.old self.new (core_shown seat.new))
             (λ frag. Sees (core_shown seat.old) self.old frag self.new (core_shown seat.new)) }
+        ensures again { (frag : Frag) → seen_at self.old.put.side (view_at seat.old).steps ≡ Some frag
+            → result ≡ Some frag }
     {
         let frag = look_at(top, seat, &self.take)?;
         self.learn(frag.control);
@@ -200,6 +205,8 @@ impl RingSide {
         ensures noted { MatchOption result
             (Misses (core_shown seat.old) self.old self.new (core_shown seat.new))
             (λ frag. Takes (core_shown seat.old) self.old frag self.new (core_shown seat.new)) }
+        ensures again { (frag : Frag) → seen_at self.old.put.side (view_at seat.old).steps ≡ Some frag
+            → result ≡ Some frag }
     {
         let frag = take_frag(top, seat, &self.take)?;
         self.learn(frag.control);

@@ -1,11 +1,13 @@
 //! Steps of one core in a row, by one of its sides: a fragment put, looked at, taken; a look for room.
 
-ghost use Rattle.std.specs.Prelude.{◌≡◌, ◌+◌, ◌%◌, ◌^◌, ◌<◌, ◌≤◌, [], ◌∷◌, ◌++◌, length, take, MatchOption};
+ghost use Rattle.std.specs.Prelude.{◌≡◌, ◌+◌, ◌%◌, ◌^◌, ◌<◌, ◌≤◌, [], ◌∷◌, ◌++◌, length, take, Some};
+ghost use Rattle.std.specs.Prelude.{MatchOption};
+ghost use Rattle.fl_base.specs.declared.fragment.Frag.{Frag};
 ghost use Rattle.fl_base.specs.Control.{epoch_of, told_of};
 ghost use Rattle.fl_link.specs.Cursor.{epoch_at};
 ghost use Rattle.fl_history_rings.specs.declared.board.Action.TheVariants.{Put, Found, Missed, Saw, Took};
 ghost use Rattle.fl_history_rings.specs.declared.board.Insight.TheVariants.{Nothing, Reading};
-ghost use Rattle.fl_history_rings.specs.Rule.{part_in, control_in, takes_at};
+ghost use Rattle.fl_history_rings.specs.Rule.{part_in, control_in, takes_at, seen_at};
 ghost use Rattle.fl_history_rings.specs.Seats.{IsSeated, IsPutPlace, IsTakePlace, HasSlot, IsNextWord};
 ghost use Rattle.fl_history_rings.specs.Seats.{IsReading, CountsWithin, view_at, put_insight};
 ghost use Rattle.fl_history_rings.specs.Seats.{HasInHand, HasDone, HasFound, HasDoneBoth};
@@ -98,6 +100,8 @@ fn load_control(top: &RingsShared, seat: &mut RingsSeat, place: &SlotPlace) -> O
         (λ c. (epoch_of c ≡ epoch_at place.now.cursor.size place.now.cursor.index)
         × HasFound seat.old place.now.side c seat.new
         × CountsWithin (view_at seat.old) place.now.side c) }
+    ensures again { (frag : Frag) → seen_at place.now.side (view_at seat.old).steps ≡ Some frag
+        → result ≡ Some frag.control }
 {
     let control = top.load::<Look>(seat, place.word(7));
     if epoch_of(control) != place.cursor.epoch() {
@@ -133,6 +137,8 @@ pub(crate) fn look_at(top: &RingsShared, seat: &mut RingsSeat, place: &SlotPlace
         (HasDone seat.old place.now.side Missed seat.new)
         (λ frag. HasDoneBoth seat.old place.now.side (Found frag.control) (Saw frag) seat.new
         × CountsWithin (view_at seat.old) place.now.side frag.control) }
+    ensures again { (frag : Frag) → seen_at place.now.side (view_at seat.old).steps ≡ Some frag
+        → result ≡ Some frag }
 {
     let control = load_control(top, seat, place)?;
     let mut words = load_six(top, seat, place);
@@ -151,6 +157,8 @@ pub(crate) fn take_frag(top: &RingsShared, seat: &mut RingsSeat, place: &SlotPla
         (λ frag. (place.now.cursor.index < 2 ^ 62)
         × HasDoneBoth seat.old place.now.side (Found frag.control) (Took frag) seat.new
         × CountsWithin (view_at seat.old) place.now.side frag.control) }
+    ensures again { (frag : Frag) → seen_at place.now.side (view_at seat.old).steps ≡ Some frag
+        → result ≡ Some frag }
 {
     let control = load_control(top, seat, place)?;
     let mut words = load_six(top, seat, place);

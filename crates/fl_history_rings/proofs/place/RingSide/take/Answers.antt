@@ -1,6 +1,7 @@
-use Rattle.std.proofs.Common.{◌≡◌, ◌∙◌, ap, subst, sym, arith}
+use Rattle.std.proofs.Common.{◌≡◌, ◌∙◌, ap, subst, sym, arith, ℕ}
 use Rattle.fl_link.specs.Cursor.{TheCursor}
 use Rattle.fl_history_rings.specs.declared.place.RingSide.{RingSide}
+use Rattle.fl_history_rings.specs.Rule.{seen_at}
 use Rattle.fl_history_rings.specs.Seats.{view_at}
 use Rattle.fl_history_rings.specs.Sides.{StepsBy, counting, having_taken}
 use Rattle.fl_history_rings.proofs.SideCalls.{same_table, side_missed, side_took, side_few}
@@ -14,6 +15,12 @@ returns-in_err-frag-clause-mine c =
     let r = c.requires in
     let e = c.take_frag.ensures in
     (side_missed _ c.args.seat.now c.take_frag.new.seat c.args.self.now (same_table _ _ _ _ r.seated e.seated) r.mine c.in_err-frag.ensures.noted).2
+
+pub returns-in_err-frag-clause-again : goal.returns-in_err-frag-clause-again
+returns-in_err-frag-clause-again c = λ f was.
+    let stands = c.take_frag.ensures.again f (ap (λ (s : ℕ). seen_at s (view_at c.args.seat.now).steps) c.requires.mine.one ∙ was) in
+    let none = c.in_err-frag.was in
+    absurd (cc)
 
 pub learn-requires : goal.learn-requires
 learn-requires c = record { few = (side_few _ _ _ _ c.requires.seated c.requires.mine).0 }
@@ -41,4 +48,8 @@ returns c =
       core = so.1;
       mine = subst (λ (a : RingSide). StepsBy c.args.top.now.key.sides.items (view_at c.take_frag.new.seat) a) (sym side_is) so.2;
       noted = (so.3, side_is);
+      again = λ f was.
+          let stands = c.take_frag.ensures.again f (ap (λ (s : ℕ). seen_at s (view_at c.args.seat.now).steps) r.mine.one ∙ was) in
+          let some = c.in_ok-frag.was in
+          cc;
     }

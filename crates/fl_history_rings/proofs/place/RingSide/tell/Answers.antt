@@ -2,7 +2,8 @@ use Rattle.std.proofs.Common.{◌≡◌, ◌∙◌, ap, sym, refl, arith, inl, i
 use Rattle.fl_history_rings.specs.declared.board.Action.TheVariants.{Put}
 use Rattle.fl_history_rings.specs.declared.place.SlotPlace.{SlotPlace}
 use Rattle.fl_history_rings.specs.Cores.{core_shown, noting}
-use Rattle.fl_history_rings.specs.Sides.{put_by, acknowledgement}
+use Rattle.fl_ring.specs.Duo.{acknowledgement}
+use Rattle.fl_history_rings.specs.Sides.{put_by}
 use Rattle.fl_history_rings.proofs.SideCalls.{room_same, told_low}
 use Rattle.fl_history_rings.proofs.place.RingSide.tell.Goals as goal
 
