@@ -1,1 +1,1 @@
-pub mod Stations
+pub mod TwoSides

@@ -1,9 +1,9 @@
-//! Tests of lists, waitsets, links, rings, streams, ways with one history and circuits, over their public calls
+//! Tests of lists, waitsets, links, rings, streams, rings with one history and circuits, over their public calls
 //! alone: one crate, since each crate of tests begins with reading all that it stands on.
 //!
 //! - `ring.rt`: lists, waitsets, links and rings
 //! - `streams.rt`: streams, in one thread and in two
-//! - `histories.rt`: many ways in one table, in one thread and in several
+//! - `histories.rt`: many rings in one table, in one thread and in several
 //! - `hop.rt`: circuits at cores
 //!
 //! `rt try --test --fail-alloc N` runs each with its Nth allocation refused: then the tests whose names end in

@@ -1,0 +1,16 @@
+pub mod Logs
+pub mod Told
+pub mod Words
+pub mod Notes
+pub mod Changes
+pub mod Allowed
+pub mod Rows
+pub mod Payload
+pub mod Plans
+pub mod Makes
+pub mod Cores
+pub mod SideCalls
+pub mod Others
+pub mod Laws
+pub mod Known
+pub mod First

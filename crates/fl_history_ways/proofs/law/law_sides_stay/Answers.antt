@@ -1,5 +1,0 @@
-use Rattle.fl_history_ways.proofs.SideCalls.{sides_stay}
-use Rattle.fl_history_ways.proofs.law.law_sides_stay.Goals as goal
-
-pub returns : goal.returns
-returns c = record { stay = sides_stay }

@@ -1,5 +1,0 @@
-use Rattle.fl_history_ways.proofs.Laws.{taken_is_prefix}
-use Rattle.fl_history_ways.proofs.law.law_taken_is_prefix.Goals as goal
-
-pub returns : goal.returns
-returns c = record { prefix = taken_is_prefix }
