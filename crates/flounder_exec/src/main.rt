@@ -1,5 +1,5 @@
 //! `flounder_exec`: `flounder exec` by itself, the smallest program over the proved `exec`. It runs the script on standard input,
-//! writes its transcript to standard output, and builds in half the time of `flounder`. Its statuses are those of `flounder exec`
+//! writes its transcript to standard output, and builds sooner than `flounder`. Its statuses are those of `flounder exec`
 //! (0; 3 where memory was refused; 4 where a read or a write failed); it takes no words and says nothing on standard error.
 #![tactic(auto)]
 
