@@ -4,7 +4,8 @@
 //! Each run is a process: the sides take turns, each first as often as the others, and have to write the same report. A run's time ends with its report: one
 //! that is recorded makes a script behind that, which the time to its end tells. The time of the turns is that of a whole run less that of a run of the same
 //! file without turns, which reads it and wires the cores. With the word `recording` the sides are the program, the same recorded, and the program once more,
-//! whose ratio tells what noise comes to; a number behind it says how often each runs. With the word `instructions` those of turns over a ring are counted in
+//! whose ratio tells what noise comes to; a number behind it says how often each runs. "By rounds" is the middle of the ratios of whole runs of one round,
+//! which follow one another: what slows the machine for a while slows all of them. With the word `instructions` those of turns over a ring are counted in
 //! place of time, by valgrind.
 
 #[allow(dead_code)]
@@ -178,6 +179,13 @@ fn with_file(kind: &Kind, run: impl FnOnce(&Path)) {
     let _ = fs::remove_file(file.with_extension("flounder"));
 }
 
+// The middle of the ratios of these times and ours, round by round.
+fn by_rounds(times: &[f64], ours: &[f64]) -> f64 {
+    let mut ratios: Vec<f64> = times.iter().zip(ours).map(|(time, our)| time / our).collect();
+    ratios.sort_by(f64::total_cmp);
+    ratios[ratios.len() / 2]
+}
+
 // The least times of each side, and the middle ones; each time with the ratio of it and ours.
 fn report(kind: &Kind, sides: &[Side], runs: usize, file: &Path) {
     let mut times: Vec<Times> = sides.iter().map(|_| Times::default()).collect();
@@ -185,12 +193,13 @@ fn report(kind: &Kind, sides: &[Side], runs: usize, file: &Path) {
         round(sides, file, run, &mut times);
     }
     println!("{}", kind.name);
+    let by_rounds: Vec<f64> = times.iter().map(|side| by_rounds(&side.whole, &times[0].whole)).collect();
     let ours = [0.0, 0.5].map(|part| times[0].at(part));
-    for (side, times) in sides.iter().zip(&mut times) {
+    for ((side, times), by_rounds) in sides.iter().zip(&mut times).zip(by_rounds) {
         let shown = [0.0, 0.5].map(|part| times.at(part));
         let ratio = |part: usize, of: usize| format!("{:6.2} ms ({:.2})", shown[part][of], shown[part][of] / ours[part][of]);
         println!(
-            "{:<17} least: whole {}, turns {}, {:5.2} M calls/s, to its end {}   middle: whole {}, turns {}, to its end {}",
+            "{:<17} least: whole {}, turns {}, {:5.2} M calls/s, to its end {}   middle: whole {}, turns {}, to its end {}   whole by rounds ({by_rounds:.2})",
             side.name(),
             ratio(0, 0),
             ratio(0, 1),
