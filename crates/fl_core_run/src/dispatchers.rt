@@ -54,7 +54,7 @@ fn note<S>(
             run.idle = 0;
             match progress {
                 None => Ok(()),
-                Some(place) => run.progresses[place].take(call),
+                Some(place) => run.progresses[place].take(run.alloc, call),
             }
         }
         TurnAnswer::Part | TurnAnswer::Ready => {

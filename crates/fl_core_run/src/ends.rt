@@ -16,10 +16,10 @@ use crate::lent::{lent_post, lent_ring_end};
 use crate::opening::open;
 use crate::running::{RunningCore, law_sound, law_sound_at};
 use fl_base::{EndId, MsgNo};
+use fl_compact_calls::CompactCall;
 use fl_core::{CoreJob, Outlet};
 use fl_endpoint::{EndFault, WriteAnswer};
 use fl_link::{PutSide, TakeSide};
-use fl_value_data::Call;
 use std::alloc::AllocError;
 
 // Each end is found once: where its progress is, and where it is at the core. Both are handed on, as places.
@@ -73,7 +73,7 @@ fn try_call<S: PutSide + TakeSide + Drop>(
     run: &mut RunningCore<S>,
     name: EndId,
     progress: Option<usize>,
-    next: &Call,
+    next: &CompactCall,
 ) -> Result<Option<usize>, AllocError>
     requires found { progress_place run.old.progresses.items name ≡ progress }
     requires left { HasLeft run.old.progresses.items progress }
@@ -91,7 +91,8 @@ fn try_call<S: PutSide + TakeSide + Drop>(
             if run.core.board().end(e).is_busy() {
                 return Ok(Some(e));
             }
-            let answer = run.core.call(e, next);
+            let call = next.lend(&mut run.spare);
+            let answer = run.core.call(e, call);
             if is_memory(answer) {
                 return Err(AllocError);
             }
@@ -148,7 +149,7 @@ pub(crate) fn try_job<S: PutSide + TakeSide + Drop>(
         None => Ok(run.core.place(name)),
         Some(job) => match job {
             CoreJob::Open(request) => {
-                open(run, progress, request)?;
+                open(run, progress, request.get())?;
                 Ok(run.core.place(name))
             }
             CoreJob::Call { call, .. } => try_call(run, name, progress, call),

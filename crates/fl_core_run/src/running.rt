@@ -15,6 +15,7 @@ use crate::ends::{ack_all, serve_all};
 use crate::links::{forward_all, say_all, tell_all};
 use crate::plan::TurnPlan;
 use fl_base::EndId;
+use fl_compact_calls::NumberCall;
 use fl_compile::Program;
 use fl_core::{Core, CoreJob};
 use fl_hop::law_never_shared;
@@ -37,6 +38,8 @@ pub struct RunningCore<S> {
     pub names: Names,
     /// The programs of the services' interfaces, by their places.
     pub programs: Vec<Program>,
+    /// The memory in which calls of one number are made. No clause speaks of it.
+    pub spare: NumberCall,
     /// How many turns on end found nothing to do: after those the core pauses. No clause speaks of it.
     pub idle: u32,
 }

@@ -30,6 +30,7 @@ impl<S> RunningCore<S> {
             progresses: self.progresses,
             names: self.names,
             programs: self.programs,
+            spare: self.spare,
             idle: self.idle,
         };
         (core, self.rings)

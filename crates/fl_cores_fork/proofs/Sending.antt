@@ -7,6 +7,7 @@ use Rattle.fl_core_run.proofs.run_seat.RunSeat.TheSendSync as run_seat
 use Rattle.fl_core_run.proofs.run.Part.TheSendSync as part
 use Rattle.fl_cores_shares.proofs.recorded_side.SideRecord.TheSendSync as side_record
 use Rattle.fl_cores_shares.specs.contracts.recorded_side.RecordedSide
+use Rattle.fl_compact_calls.specs.contracts.number_call.NumberCall
 use Rattle.fl_compile.specs.contracts.program.Program
 use Rattle.fl_link.specs.contracts.queue.QueueLink
 use Rattle.fl_nameserv.specs.contracts.names.Names
@@ -21,8 +22,8 @@ use Rattle.fl_cores_fork.specs.contracts.noting.RoomBehind
 
 -- a core with its sides, queues and ends' progress
 pub running_sends : IsSend Core.the_row → IsSend SharedSide.the_row → IsSend QueueLink.the_row → IsSend EndProgress.the_row → IsSend Names.the_row
-    → IsSend Program.the_row → IsSend (Running.the_field SharedSide.the_row).row
-running_sends core side queue progress names program = struct_send (shape (Running.the_type SharedSide.the_row)) (
+    → IsSend Program.the_row → IsSend NumberCall.the_row → IsSend (Running.the_field SharedSide.the_row).row
+running_sends core side queue progress names program number_call = struct_send (shape (Running.the_type SharedSide.the_row)) (
   search (sendable, crosses) depth 20,
   (
     core,
@@ -36,7 +37,7 @@ running_sends core side queue progress names program = struct_send (shape (Runni
             names,
             (
               search (sendable, crosses, program) depth 40,
-              (search (sendable, crosses) depth 20, tt),
+              (number_call, (search (sendable, crosses) depth 20, tt)),
             ),
           ),
         ),

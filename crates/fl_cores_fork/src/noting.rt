@@ -12,6 +12,7 @@ ghost use Rattle.fl_cores_fork.specs.Rooms.{IsRoomFor, RoomFits};
 use crate::core_thread::{CoreThread, FinishedCore};
 use crate::fork::{law_sound, run_one};
 use fl_base::CoreId;
+use fl_compact_calls::NumberCall;
 use fl_core::{Core, CoreJob};
 use fl_core_run::{Gate, Part, RunSeat, RunningCore, TurnPlan, core_run};
 use fl_cores_shares::{RecordedSide, SideRecord};
@@ -209,6 +210,7 @@ fn place_for_core(alloc: Global) -> Result<Box<RunningCore<SharedSide>>, AllocEr
         progresses: Vec::new(alloc),
         names: Names::new(alloc),
         programs: Vec::new(alloc),
+        spare: NumberCall::new(alloc)?,
         idle: 0,
     };
     Ok(Box::new(alloc, running)?)

@@ -8,7 +8,7 @@ use Rattle.fl_core_run.specs.Run.{ways, run_of}
 use Rattle.fl_core_run.specs.LogEntries.{NotesCalled}
 use Rattle.fl_core_run.specs.Steps.{CallsAt}
 use Rattle.fl_core_run.proofs.Refusing.{calls_nothing}
-use Rattle.fl_core_run.proofs.Calling.{call_left, called, accepting, placed_still, placed_then}
+use Rattle.fl_core_run.proofs.Calling.{call_left, lent, called, accepting, placed_still, placed_then}
 use Rattle.fl_core_run.proofs.ends.try_call.Goals as goal
 
 pub returns-then-is_busy : goal.returns-then-is_busy
@@ -38,7 +38,8 @@ returns-then-is_memory-clause-kept g c =
 pub returns-then-is_memory-clause-accepts : goal.returns-then-is_memory-clause-accepts
 returns-then-is_memory-clause-accepts g c =
     accepting c.args.run.now.core c.call-answer.new.self c.args.name c.in-Some.e (call_of c.args.next.now) c.call-answer.result
-    (sym c.is_memory.ensures.memory ∙ c.if-is_memory.true) c.in-Some.ensures.place c.call-answer.ensures.calls
+    (sym c.is_memory.ensures.memory ∙ c.if-is_memory.true) c.in-Some.ensures.place
+    (lent c.args.run.now.core c.call-answer.new.self c.in-Some.e (call_of c.lend-call.result.now) (call_of c.args.next.now) c.call-answer.result c.lend-call.ensures.same c.call-answer.ensures.calls)
 
 pub advance-requires : goal.advance-requires
 advance-requires g c = record { left = c.requires.left }
@@ -53,7 +54,7 @@ pub returns-in-Ok-clause-calls : goal.returns-in-Ok-clause-calls
 returns-in-Ok-clause-calls g c =
     called (ways g.S.PutSide.puts g.S.TakeSide.takes g.S.TakeSide.front) c.args.name (run_of c.args.run.now) (run_of c.advance.new.run) c.in-Some.e c.call-answer.new.self
     c.call-answer.result c.in-Some.ensures.place c.law_sound.ensures.sound (c.law_sound_at.ensures.sound c.args.name (sym c.in-Some.ensures.place))
-    c.args.next.now c.call-answer.ensures.calls (sym c.is_memory.ensures.memory ∙ c.if-is_memory.false)
+    c.args.next.now (lent c.args.run.now.core c.call-answer.new.self c.in-Some.e (call_of c.lend-call.result.now) (call_of c.args.next.now) c.call-answer.result c.lend-call.ensures.same c.call-answer.ensures.calls) (sym c.is_memory.ensures.memory ∙ c.if-is_memory.false)
     (subst (λ (a : Result (Unit {0}) EndFault). NotesCalled c.args.name a (record (run_of c.args.run.now) { core = c.call-answer.new.self }) (run_of c.advance.new.run))
     (sym c.in-Ok.is) (c.advance.ensures.advanced c.args.name c.requires.found))
 
@@ -68,7 +69,7 @@ pub returns-in-Err-clause-calls : goal.returns-in-Err-clause-calls
 returns-in-Err-clause-calls g c =
     called (ways g.S.PutSide.puts g.S.TakeSide.takes g.S.TakeSide.front) c.args.name (run_of c.args.run.now) _ c.in-Some.e c.call-answer.new.self
     c.call-answer.result c.in-Some.ensures.place c.law_sound.ensures.sound (c.law_sound_at.ensures.sound c.args.name (sym c.in-Some.ensures.place))
-    c.args.next.now c.call-answer.ensures.calls (sym c.is_memory.ensures.memory ∙ c.if-is_memory.false)
+    c.args.next.now (lent c.args.run.now.core c.call-answer.new.self c.in-Some.e (call_of c.lend-call.result.now) (call_of c.args.next.now) c.call-answer.result c.lend-call.ensures.same c.call-answer.ensures.calls) (sym c.is_memory.ensures.memory ∙ c.if-is_memory.false)
     (subst (λ (a : Result (Unit {0}) EndFault). NotesCalled c.args.name a (record (run_of c.args.run.now) { core = c.call-answer.new.self })
     (record (run_of c.args.run.now) { core = c.call-answer.new.self })) (sym c.in-Err.is) refl)
 

@@ -2,7 +2,9 @@ use Rattle.std.proofs.Common.{◌∙◌, refl, sym, ap, subst, ℕ, Option}
 use Rattle.fl_core.specs.declared.core_job.CoreJob.{CoreJob}
 use Rattle.fl_core.specs.declared.core_job.CoreJob.TheVariants.{Open, Call, Reply}
 use Rattle.fl_core_run.specs.Run.{ways, run_of, next_at, next_job}
-use Rattle.fl_core_run.specs.Steps.{Tries}
+use Rattle.fl_core.specs.declared.core_job.OpenRequest.{OpenRequest}
+use Rattle.fl_core_run.specs.Steps.{may_ask, OpensIf, Tries}
+use Rattle.fl_core_run.specs.Wants.{BeginsCircuit}
 use Rattle.fl_core_run.proofs.Trying.{tried, tried_if, does, does_if}
 use Rattle.fl_core_run.proofs.Stopping.{on_err}
 use Rattle.fl_core_run.proofs.ends.try_job.Goals as goal
@@ -35,13 +37,14 @@ pub returns-in_err-open-in-Open-clause-does : goal.returns-in_err-open-in-Open-c
 returns-in_err-open-in-Open-clause-does g c = on_err c.from_residual.result
     (does (ways g.S.PutSide.puts g.S.TakeSide.takes g.S.TakeSide.front) c.args.name (next_job c.args.jobs.now (run_of c.args.run.now) c.args.name) c.in-Some.job.now (Open c.in-Open.request) (run_of c.args.run.now) (run_of c.open.new.run)
     (ap (λ (o : Option ℕ). next_at c.args.jobs.now (run_of c.args.run.now) o) (sym c.progress_of-progress.ensures.place) ∙ c.in-Some.ensures.next) c.in-Open.is
-    c.in_err-open-in-Open.ensures.begins)
+    (subst (λ (request : OpenRequest). BeginsCircuit (run_of c.args.run.now) request) c.get.ensures.same c.in_err-open-in-Open.ensures.begins))
 
 pub returns-in_ok-open-in-Open-clause-tries : goal.returns-in_ok-open-in-Open-clause-tries
 returns-in_ok-open-in-Open-clause-tries g c =
     tried (ways g.S.PutSide.puts g.S.TakeSide.takes g.S.TakeSide.front) c.args.name (next_job c.args.jobs.now (run_of c.args.run.now) c.args.name) c.in-Some.job.now (Open c.in-Open.request) (run_of c.args.run.now) (run_of c.open.new.run)
     (ap (λ (o : Option ℕ). next_at c.args.jobs.now (run_of c.args.run.now) o) (sym c.progress_of-progress.ensures.place) ∙ c.in-Some.ensures.next) c.in-Open.is
-    (c.in_ok-open-in-Open.ensures.opens c.args.name (sym c.progress_of-progress.ensures.place))
+    (subst (λ (request : OpenRequest). OpensIf (ways g.S.PutSide.puts g.S.TakeSide.takes g.S.TakeSide.front) (may_ask (run_of c.args.run.now) request) c.args.name request
+    (run_of c.args.run.now) (run_of c.open.new.run)) c.get.ensures.same (c.in_ok-open-in-Open.ensures.opens c.args.name (sym c.progress_of-progress.ensures.place)))
 
 pub returns-in_ok-open-in-Open-clause-place : goal.returns-in_ok-open-in-Open-clause-place
 returns-in_ok-open-in-Open-clause-place g c = record { is = sym c.place-in-Open.ensures.place; within = c.place-in-Open.ensures.within }
