@@ -19,6 +19,7 @@ ghost use Rattle.fl_core_run.specs.contracts.end_progress.EndProgress as Progres
 ghost use Rattle.fl_core.specs.contracts.core_job.BoxedRequest as RequestRows;
 ghost use Rattle.fl_core.specs.contracts.core_job.CoreJob as JobRows;
 ghost use Rattle.fl_core_run.specs.contracts.running.RunningCore as RunningRows;
+ghost use Rattle.fl_cores_fork.specs.Rows.{sides_row};
 ghost use Rattle.fl_cores_fork.specs.contracts.core_thread.CoreThread as CoreThreadRows;
 ghost use Rattle.fl_cores_fork.specs.contracts.core_thread.FinishedCore as DoneRows;
 ghost use Rattle.fl_cores_fork.specs.contracts.noting.NotingRoom as NotingRoomRows;
@@ -179,7 +180,7 @@ pub(crate) fn law_pace_shared()
 
 // So may a core with its sides of rings, as a part of a core thread.
 fn running_sent()
-    ensures sent { IsSend (RunningRows.the_field SharedSideRows.the_row).row }
+    ensures sent { IsSend (RunningRows.the_field sides_row).row }
 {
     core_sent();
     side_sent();

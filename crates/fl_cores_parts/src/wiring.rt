@@ -243,7 +243,7 @@ impl CoreInputs<'_> {
         core: Core,
         rings: Vec<SharedSide>,
         queues: Vec<QueueLink>,
-    ) -> Result<Box<RunningCore<SharedSide>>, AllocError>
+    ) -> Result<Box<RunningCore<Vec<SharedSide>>>, AllocError>
         requires few { length self.now.joined.now.bindings.items ≤ 1024 }
         requires end_works { HasEndWork self.now.joined.now.bindings.items self.now.joined.now.end_works.items }
         ensures core { IfOk result (λ r. r.value.core ≡ core) }
