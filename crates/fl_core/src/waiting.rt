@@ -141,6 +141,41 @@ fn examine<T: TakeSide>(waitset: &mut Waitset, c: ChanId, from: &mut T) -> bool
     }
 }
 
+// The end of the first pending channel takes a fragment, and the channel goes where it waits for the next. It stands
+// apart, so that a look at a polled channel prepares nothing of it.
+#[inline(always)]
+fn take_pending<T: TakeSide>(
+    waitset: &mut Waitset,
+    c: ChanId,
+    end: &mut End,
+    kind: ChannelKind,
+    from: &mut T,
+    calls: &mut Reassemblies,
+    place: usize,
+) -> Result<TurnAnswer, AllocError>
+    requires waitset { IsWaitset waitset.old }
+    requires picked { next_pick waitset.old ≡ Ok (Pick.Pending c) }
+    requires ready { IsReady end.old }
+    requires place { IsPlaceOf end.old calls.old place }
+    ensures waitset { IsWaitset waitset.new }
+    ensures looks { LooksAtPlace T.takes (end_turn (Pick.Pending c) kind (moment waitset.old end.old from.old) result
+        (moment waitset.new end.new from.new)) calls.old place calls.new }
+{
+    match end.receive(from, calls, place) {
+        Err(fault) => refuse(waitset, c, fault),
+        Ok(answer) => {
+            settle(waitset, c, kind, &answer, from);
+            match answer {
+                ReceiveAnswer::Handle(call) => Ok(TurnAnswer::Handle(call)),
+                ReceiveAnswer::Part => Ok(TurnAnswer::Part),
+                ReceiveAnswer::Quiet => Ok(TurnAnswer::Quiet),
+                ReceiveAnswer::Empty => Ok(TurnAnswer::Nothing),
+                ReceiveAnswer::HeldBack => Ok(TurnAnswer::Full),
+            }
+        }
+    }
+}
+
 /// The turn of what a waitset picked, at its end and the end's place among calls.
 pub(crate) fn look_at<T: TakeSide>(
     waitset: &mut Waitset,
@@ -159,26 +194,13 @@ pub(crate) fn look_at<T: TakeSide>(
     ensures looks { LooksAtPlace T.takes (end_turn pick kind (moment waitset.old end.old from.old) result (moment waitset.new end.new from.new))
         calls.old place calls.new }
 {
-    let c = match pick {
-        Pick::Pending(c) => c,
+    match pick {
+        Pick::Pending(c) => take_pending(waitset, c, end, kind, from, calls, place),
         Pick::Polled(c) => {
             if examine(waitset, c, from) {
                 return Ok(TurnAnswer::Ready);
             }
-            return Ok(TurnAnswer::Quiet);
-        }
-    };
-    match end.receive(from, calls, place) {
-        Err(fault) => refuse(waitset, c, fault),
-        Ok(answer) => {
-            settle(waitset, c, kind, &answer, from);
-            match answer {
-                ReceiveAnswer::Handle(call) => Ok(TurnAnswer::Handle(call)),
-                ReceiveAnswer::Part => Ok(TurnAnswer::Part),
-                ReceiveAnswer::Quiet => Ok(TurnAnswer::Quiet),
-                ReceiveAnswer::Empty => Ok(TurnAnswer::Nothing),
-                ReceiveAnswer::HeldBack => Ok(TurnAnswer::Full),
-            }
+            Ok(TurnAnswer::Quiet)
         }
     }
 }

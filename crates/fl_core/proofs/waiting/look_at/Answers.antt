@@ -1,60 +1,12 @@
-use Rattle.std.proofs.Common.{◌≡◌, ◌∙◌, ap, Ok, Result}
-use Rattle.fl_waitset.specs.declared.waitset.Pick.{Pick}
-use Rattle.fl_waitset.specs.declared.waitset.Pick.TheVariants as pick
-use Rattle.fl_waitset.specs.declared.fault.WaitFault.{WaitFault}
-use Rattle.fl_waitset.specs.Waiting.{next_pick}
-use Rattle.fl_core.proofs.Picks.{pending_ok}
-use Rattle.fl_endpoint.specs.declared.answer.ReceiveAnswer.TheVariants as receive
+use Rattle.std.proofs.Common.{Ok}
 use Rattle.fl_core.specs.declared.turn_answer.TurnAnswer.TheVariants.{Ready, Quiet}
-use Rattle.fl_core.proofs.BoardLooking.{looks_as, looks_refused, looks_polled}
+use Rattle.fl_core.proofs.BoardLooking.{looks_polled}
 use Rattle.fl_core.proofs.waiting.look_at.Goals as goal
-
--- the first pending channel was picked
-first : (picked p : Pick) (r : Result Pick WaitFault) → r ≡ Ok picked → picked ≡ p → r ≡ Ok p
-first picked p r a e = a ∙ ap (λ (x : Pick). let y : Result Pick WaitFault = Ok x in y) e
-
-pub refuse-requires-clause-registered : goal.refuse-requires-clause-registered
-refuse-requires-clause-registered g c =
-    pending_ok c.args.waitset.now c.in-Pending.c c.requires.waitset.apart (first c.args.pick (pick.Pending c.in-Pending.c) (next_pick c.args.waitset.now) c.requires.picked c.in-Pending.is)
-
-pub settle-requires-clause-registered : goal.settle-requires-clause-registered
-settle-requires-clause-registered g c =
-    pending_ok c.args.waitset.now c.in-Pending.c c.requires.waitset.apart (first c.args.pick (pick.Pending c.in-Pending.c) (next_pick c.args.waitset.now) c.requires.picked c.in-Pending.is)
-
-pub returns-in-Handle-clause-looks : goal.returns-in-Handle-clause-looks
-returns-in-Handle-clause-looks g c =
-    looks_as g.T.TakeSide.takes c.args.kind c.args.waitset.now c.settle.new.waitset c.args.end.now c.receive.new.self c.args.from.now c.receive.new.from c.settle.new.from c.args.calls.now c.args.place c.receive.new.calls c.requires.ready
-    c.in-Pending.c c.args.pick c.in-Pending.is c.in-Ok.answer (receive.Handle c.in-Handle.call) c.in-Handle.is c.in-Ok.ensures.receives c.settle.ensures.settles
-
-pub returns-in-Part-clause-looks : goal.returns-in-Part-clause-looks
-returns-in-Part-clause-looks g c =
-    looks_as g.T.TakeSide.takes c.args.kind c.args.waitset.now c.settle.new.waitset c.args.end.now c.receive.new.self c.args.from.now c.receive.new.from c.settle.new.from c.args.calls.now c.args.place c.receive.new.calls c.requires.ready
-    c.in-Pending.c c.args.pick c.in-Pending.is c.in-Ok.answer receive.Part c.in-Part.is c.in-Ok.ensures.receives c.settle.ensures.settles
-
-pub returns-in-Quiet-clause-looks : goal.returns-in-Quiet-clause-looks
-returns-in-Quiet-clause-looks g c =
-    looks_as g.T.TakeSide.takes c.args.kind c.args.waitset.now c.settle.new.waitset c.args.end.now c.receive.new.self c.args.from.now c.receive.new.from c.settle.new.from c.args.calls.now c.args.place c.receive.new.calls c.requires.ready
-    c.in-Pending.c c.args.pick c.in-Pending.is c.in-Ok.answer receive.Quiet c.in-Quiet.is c.in-Ok.ensures.receives c.settle.ensures.settles
-
-pub returns-in-Empty-clause-looks : goal.returns-in-Empty-clause-looks
-returns-in-Empty-clause-looks g c =
-    looks_as g.T.TakeSide.takes c.args.kind c.args.waitset.now c.settle.new.waitset c.args.end.now c.receive.new.self c.args.from.now c.receive.new.from c.settle.new.from c.args.calls.now c.args.place c.receive.new.calls c.requires.ready
-    c.in-Pending.c c.args.pick c.in-Pending.is c.in-Ok.answer receive.Empty c.in-Empty.is c.in-Ok.ensures.receives c.settle.ensures.settles
-
-pub returns-in-HeldBack-clause-looks : goal.returns-in-HeldBack-clause-looks
-returns-in-HeldBack-clause-looks g c =
-    looks_as g.T.TakeSide.takes c.args.kind c.args.waitset.now c.settle.new.waitset c.args.end.now c.receive.new.self c.args.from.now c.receive.new.from c.settle.new.from c.args.calls.now c.args.place c.receive.new.calls c.requires.ready
-    c.in-Pending.c c.args.pick c.in-Pending.is c.in-Ok.answer receive.HeldBack c.in-HeldBack.is c.in-Ok.ensures.receives c.settle.ensures.settles
-
-pub returns-in-Err-clause-looks : goal.returns-in-Err-clause-looks
-returns-in-Err-clause-looks g c =
-    looks_refused g.T.TakeSide.takes c.args.kind c.args.waitset.now c.refuse.new.waitset c.args.end.now c.receive.new.self c.args.from.now c.receive.new.from c.receive.new.from c.args.calls.now c.args.place c.receive.new.calls c.requires.ready
-    c.in-Pending.c c.args.pick c.in-Pending.is c.in-Err.fault c.refuse.result c.in-Err.ensures.receives c.refuse.ensures.refused
 
 pub returns-then-examine-clause-looks : goal.returns-then-examine-clause-looks
 returns-then-examine-clause-looks g c =
     looks_polled g.T.TakeSide.takes c.args.kind c.in-Polled.c c.args.pick c.args.waitset.now c.examine.new.waitset c.args.end.now c.args.from.now c.examine.new.from (Ok Ready) c.args.calls.now c.args.place c.in-Polled.is c.requires.place c.if-examine.ensures.examines
 
-pub returns-in-Polled-clause-looks : goal.returns-in-Polled-clause-looks
-returns-in-Polled-clause-looks g c =
+pub returns-else-examine-clause-looks : goal.returns-else-examine-clause-looks
+returns-else-examine-clause-looks g c =
     looks_polled g.T.TakeSide.takes c.args.kind c.in-Polled.c c.args.pick c.args.waitset.now c.examine.new.waitset c.args.end.now c.args.from.now c.examine.new.from (Ok Quiet) c.args.calls.now c.args.place c.in-Polled.is c.requires.place c.if-examine.ensures.examines
