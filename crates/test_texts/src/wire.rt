@@ -4,10 +4,11 @@
 //! - `value_tests.rt`, `tape_tests.rt`: calls as text, and calls as tapes
 //! - `layout_tests.rt`: lengths, places and sizes
 //! - `payload_tests.rt`: payloads, fragments, and calls read back from them
-//! - `codec_tests.rt`: tapes of few numbers, and their fragments
+//! - `codec_tests.rt`: tapes of few numbers, and their fragments; `compact_tests.rt`: calls in little memory
 //! - `forged_tests.rt`: what lists of fragments read as, forged ones too
 
 mod codec_tests;
+mod compact_tests;
 mod forged_tests;
 mod layout_tests;
 mod payload_tests;
