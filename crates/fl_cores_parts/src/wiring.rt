@@ -254,6 +254,7 @@ impl CoreInputs<'_> {
         ensures programs { IfOk result (λ r. map program_of r.value.programs.items ≡ map program_of self.now.programs.now) }
     {
         let outfit = self.outfit(k)?;
+        let spare = NumberCall::new(self.alloc)?;
         let running = RunningCore {
             alloc: self.alloc,
             core,
@@ -262,7 +263,7 @@ impl CoreInputs<'_> {
             progresses: outfit.progresses,
             names: outfit.names,
             programs: outfit.programs,
-            spare: NumberCall::new(self.alloc)?,
+            spare,
             idle: 0,
         };
         Ok(Box::new(self.alloc, running)?)

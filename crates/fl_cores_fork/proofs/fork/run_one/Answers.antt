@@ -1,4 +1,5 @@
 use Rattle.std.proofs.Common.{subst}
+use Rattle.std.specs.Global.{Vec}
 use Rattle.fl_ring.specs.declared.shared.duo_sides.SharedSide.{SharedSide}
 use Rattle.fl_core_run.specs.declared.running.RunningCore.{RunningCore}
 use Rattle.fl_core_run.specs.Run.{run_of}

@@ -1,7 +1,10 @@
-use Rattle.std.proofs.Common.{refl, length}
+use Rattle.std.proofs.Common.{◌≡◌, refl, subst, length, None}
 use Rattle.std.proofs.lemmas.Result.{on_ok_weaker}
+use Rattle.std.specs.Prelude.{IfErr, OnOk}
+use Rattle.fl_cores_file.specs.declared.job.CircuitRequest.{CircuitRequest}
 use Rattle.fl_cores_file.specs.Views.{request_of}
 use Rattle.fl_value_data.specs.Value.{call_of}
+use Rattle.fl_cores_jobs.specs.Faults.{request_fault, StopsFor}
 use Rattle.fl_cores_jobs.specs.State.{joined_of}
 use Rattle.fl_cores_jobs.proofs.Fitting.{call_fits}
 use Rattle.fl_cores_jobs.proofs.Refusing.{rule_stops, rule_passes, call_stops, call_passes, request_stops, request_passes}
@@ -11,7 +14,8 @@ use Rattle.fl_cores_jobs.proofs.joining.JoinedJobs.join_one.Goals as goal
 pub returns-in-Open-clause-refused : goal.returns-in-Open-clause-refused
 returns-in-Open-clause-refused c =
     rw c.in-Open.is (request_stops c.open.result (length c.args.parts.now.cores.items) c.args.parts.now (joined_of c.args.self.now) (request_of c.in-Open.request.value)
-    c.open.ensures.refused)
+    (subst (λ (request : CircuitRequest). IfErr c.open.result (λ stop. StopsFor (request_fault c.args.parts.now (length c.args.self.now.bindings.items) (request_of request)) stop))
+    c.into_inner-request.ensures c.open.ensures.refused))
 
 pub returns-in-Reply-clause-refused : goal.returns-in-Reply-clause-refused
 returns-in-Reply-clause-refused c =
@@ -41,7 +45,8 @@ returns-in-Call-clause-refused c =
 pub returns-in-Open-clause-passed : goal.returns-in-Open-clause-passed
 returns-in-Open-clause-passed c =
     rw c.in-Open.is (request_passes c.open.result (length c.args.parts.now.cores.items) c.args.parts.now (joined_of c.args.self.now) (request_of c.in-Open.request.value)
-    c.open.ensures.passed)
+    (subst (λ (request : CircuitRequest). OnOk c.open.result (request_fault c.args.parts.now (length c.args.self.now.bindings.items) (request_of request) ≡ None))
+    c.into_inner-request.ensures c.open.ensures.passed))
 
 pub returns-in-Reply-clause-passed : goal.returns-in-Reply-clause-passed
 returns-in-Reply-clause-passed c =
