@@ -1,0 +1,6 @@
+pub mod Ways
+pub mod Exchanging
+pub mod Moving
+pub mod Cutting
+pub mod Taking
+pub mod Ordering
