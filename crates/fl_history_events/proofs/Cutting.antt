@@ -1,5 +1,5 @@
 -- What is joined of pieces, and its last step; the events of a core in an order of events, and the last of them.
-use Rattle.std.proofs.Common.{ℕ, zero, suc, ◌≡◌, ◌≢◌, ◌⊎◌, inl, inr, ⊎_elim, ◌==◌, Bool, true, false, if◌then◌else◌, eq-eqb, ne_eqb, List, [], ◌∷◌, ◌++◌, length, get_or, ap, subst, ◌∙◌, sym, refl, append_assoc, append-nil}
+use Rattle.std.proofs.Common.{ℕ, zero, ◌≡◌, ◌≢◌, ◌⊎◌, inl, inr, ⊎_elim, ◌==◌, eq-eqb, ne_eqb, List, [], ◌∷◌, ◌++◌, length, get_or, ap, subst, ◌∙◌, sym, refl, append_assoc, append-nil}
 use mathlib.Core.Logic.{dite}
 use mathlib.Core.Option.{some}
 use native.Mathlib.Decide.{ℕ_discrete}

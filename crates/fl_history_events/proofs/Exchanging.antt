@@ -1,5 +1,5 @@
 -- Two neighbouring steps by different sides change places.
-use Rattle.std.proofs.Common.{ℕ, ◌≡◌, ◌≢◌, ◌<◌, List, length, set, ap, subst, ◌∙◌, sym, refl, arith, length-set, set-set}
+use Rattle.std.proofs.Common.{ℕ, ◌≡◌, ◌≢◌, List, set, ap, subst, ◌∙◌, sym, refl, arith, length-set, set-set}
 use lib.Seq.{set_comm}
 use mathlib.Core.Logic.{dite}
 use mathlib.Core.Option.{some}
@@ -9,7 +9,7 @@ use Rattle.atomic_table.proofs.Lists.{set_here, set_else}
 use Rattle.fl_history_rings.specs.declared.board.Action.{Action}
 use Rattle.fl_history_rings.specs.declared.board.Entry.{Entry}
 use Rattle.fl_history_rings.specs.declared.board.SideEnd.{SideEnd}
-use Rattle.fl_history_rings.specs.Rings.{mate, Way, Does, Goes, entry}
+use Rattle.fl_history_rings.specs.Rings.{mate, Way, Goes, entry}
 use Rattle.fl_history_rings.proofs.Logs.{within, same_there}
 use Rattle.fl_history_rings.proofs.Words.{mate_back, mate_apart}
 use Rattle.fl_history_events.proofs.Ways.{put_to, taken_by, Finds, does_finds, finds_does, MayChange, second_first, first_second, same_mine, same_theirs}

@@ -4,3 +4,5 @@ pub mod Moving
 pub mod Cutting
 pub mod Taking
 pub mod Ordering
+pub mod Moments
+pub mod Gathered

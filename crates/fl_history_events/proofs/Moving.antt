@@ -1,6 +1,5 @@
 -- A step moves past steps of other cores: later, where it may wait, and earlier, where it may come earlier.
-use Rattle.std.proofs.Common.{ℕ, ◌≡◌, ◌≢◌, ◌⊎◌, ◌==◌, Bool, true, false, if◌then◌else◌, eq-eqb, ne_eqb, List, [], ◌∷◌, ◌++◌, ap, subst, ◌∙◌, sym, refl, append_assoc, append-nil}
-use Rattle.std.proofs.lemmas.Bool.{false≢true}
+use Rattle.std.proofs.Common.{ℕ, ◌≡◌, ◌≢◌, ◌==◌, Bool, true, eq-eqb, ne_eqb, List, [], ◌∷◌, ◌++◌, ap, subst, ◌∙◌, sym, refl, append_assoc, append-nil}
 use mathlib.Core.Logic.{dite}
 use mathlib.Core.Option.{some}
 use native.Mathlib.Decide.{ℕ_discrete}
@@ -10,10 +9,10 @@ use Rattle.fl_history_rings.specs.declared.board.Entry.{Entry}
 use Rattle.fl_history_rings.specs.declared.board.SideEnd.{SideEnd}
 use Rattle.fl_history_rings.specs.Rings.{mate, Way, Goes, Runs, IsByItsCore}
 use Rattle.fl_history_rings.specs.Rule.{gather, one_action}
-use Rattle.fl_history_rings.proofs.Logs.{same_there, then_is, else_is, runs_more}
+use Rattle.fl_history_rings.proofs.Logs.{same_there, then_is, else_is}
 use Rattle.fl_history_rings.proofs.Words.{mate_back}
-use Rattle.fl_history_events.specs.Events.{MayWait, AllMayWait, MayComeEarlier, known_after, stands_from, known_to_stand}
-use Rattle.fl_history_events.proofs.Ways.{put_to, taken_by, Finds, does_finds, Standing, waits_change, comes_change, put_stands, known_stands}
+use Rattle.fl_history_events.specs.Events.{MayWait, AllMayWait, MayComeEarlier, known_after, stands_from}
+use Rattle.fl_history_events.proofs.Ways.{put_to, taken_by, does_finds, Standing, waits_change, comes_change, put_stands, known_stands}
 use Rattle.fl_history_events.proofs.Exchanging.{exchanged, mine_after, theirs_after, else_after}
 
 -- ---- steps in a row, and in two rows

@@ -1,5 +1,5 @@
 -- Events have one order: by induction on the steps, from the last one.
-use Rattle.std.proofs.Common.{ℕ, zero, suc, ◌≡◌, ◌≢◌, ◌<◌, ◌≤◌, ◌⊎◌, ⊎_elim, ◌==◌, if◌then◌else◌, eq-eqb, ne_eqb, List, [], ◌∷◌, ◌++◌, length, ap, subst, ◌∙◌, sym, refl, arith, append_assoc, append-nil, length-append, lt_of_not-le}
+use Rattle.std.proofs.Common.{ℕ, zero, suc, ◌≡◌, ◌≢◌, ◌<◌, ◌≤◌, ⊎_elim, ◌==◌, if◌then◌else◌, eq-eqb, ne_eqb, List, [], ◌∷◌, ◌++◌, length, ap, subst, ◌∙◌, sym, refl, arith, append_assoc, append-nil, length-append, lt_of_not-le}
 use mathlib.Core.Logic.{dite}
 use mathlib.Core.Option.{some, some-injective, some-ne-none}
 use native.Mathlib.Decide.{dec_le, ℕ_discrete}
@@ -9,10 +9,10 @@ use Rattle.fl_history_rings.specs.declared.board.Entry.{Entry}
 use Rattle.fl_history_rings.specs.declared.board.SideEnd.{SideEnd}
 use Rattle.fl_history_rings.specs.Rings.{Way, Goes, Runs, IsByItsCore, steps_of}
 use Rattle.fl_history_rings.proofs.Logs.{then_is, else_is, steps_more, steps_same}
-use Rattle.fl_history_events.specs.Events.{MayFollow, IsEvent, joined, IsCut, CoreEvent, event, all_steps, events_of, EventsInOneOrder}
+use Rattle.fl_history_events.specs.Events.{MayFollow, IsEvent, joined, IsCut, CoreEvent, all_steps, events_of}
 use Rattle.fl_history_events.specs.Laws.{EventsHaveOneOrder}
 use Rattle.fl_history_events.proofs.Moving.{ByCore, runs_cut}
-use Rattle.fl_history_events.proofs.Cutting.{cons_none, snoc_none, last_or_none, nothing_joined, at_middle, follow_cut, LastStep, last_step, events_both, steps_both, last_event, each_of, each_own, each_else, each_steps}
+use Rattle.fl_history_events.proofs.Cutting.{cons_none, last_or_none, nothing_joined, at_middle, follow_cut, LastStep, last_step, events_both, steps_both, last_event, each_of, each_own, each_else, each_steps}
 use Rattle.fl_history_events.proofs.Taking.{EachByCore, each_join, TakesIn, takes_in}
 
 module _ (ends : List SideEnd) (start : List Way) where

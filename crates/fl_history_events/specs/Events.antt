@@ -10,12 +10,15 @@ use Rattle.fl_history_rings.specs.declared.board.Entry.{Entry}
 use Rattle.fl_history_rings.specs.declared.board.SideEnd.{SideEnd}
 use Rattle.fl_history_rings.specs.Rings.{Way, Goes, Runs, IsByItsCore, steps_of}
 use Rattle.fl_history_rings.specs.Rule.{gather, one_action}
+use Rattle.fl_history_rings.specs.Cores.{TheCore}
+use Rattle.fl_history_rings.specs.Laws.{IsAmong}
 
 -- ---- what can be had later, and what earlier
 
--- It may wait: it can be had later, past steps of other cores. What stands first for a side stands first till
--- that side takes it, and how many it took is told by its next put, and not before. But where nothing stands,
--- something may be put meanwhile; and what is put may be awaited.
+-- It may wait: it can be had later, past steps of other cores.
+--   What was found, seen or taken stood first for its side, and what stands first stands first till that side
+--   takes it: nobody else does. How many it took is told by its next put, and not before.
+--   A look that misses may not wait: something may be put meanwhile. Nor may a put: it may be awaited.
 abbrev pub MayWait : Action → Type 0
 MayWait (Put frag) = ⊥
 MayWait (Found control) = Unit {0}
@@ -44,8 +47,12 @@ stands_from known (action ∷ more) = stands_from (known_after known action) mor
 abbrev pub known_to_stand : ℕ → List Entry → Bool
 known_to_stand s es = stands_from false (gather one_action s es)
 
--- It may come earlier: it can be had before steps of other cores. Where nothing stands now, nothing stood
--- then. What stands first now stood first then only where it is known that something stood.
+-- It may come earlier: it can be had before steps of other cores.
+--   A look that misses always may: where nothing stands for a side nothing stood before, since nobody else
+--   takes it away.
+--   What is found, seen or taken may only where it is known that something stood: else it may have been put
+--   meanwhile. What stands first then is the same, since what is put comes behind it.
+--   A put may not: it takes a slot that others may have freed meanwhile, and what it puts may have been missed.
 abbrev pub MayComeEarlier : Bool → Action → Type 0
 MayComeEarlier known (Put frag) = ⊥
 MayComeEarlier known (Found control) = known ≡ true
@@ -65,10 +72,27 @@ abbrev pub FollowAll : List Entry → List Entry → Type 0
 FollowAll before [] = Unit {0}
 FollowAll before (e ∷ es) = MayFollow before e × FollowAll (before ++ e ∷ []) es
 
--- Steps of one core that can be had at one moment. So first come any that may wait; then one step of any kind,
--- a put or a look that misses, which is when all of it happens; then any that may come earlier.
+-- Steps of one core that can be had at one moment.
 abbrev pub IsEvent : List Entry → Type 0
 IsEvent steps = FollowAll [] steps
+
+-- ---- the moment of an event
+
+-- these may come earlier, one after another, behind those before
+abbrev pub AllMayComeEarlier : List Entry → List Entry → Type 0
+AllMayComeEarlier before [] = Unit {0}
+AllMayComeEarlier before (e ∷ es) =
+    MayComeEarlier (known_to_stand e.side before) e.action × AllMayComeEarlier (before ++ e ∷ []) es
+
+-- It is that of one of its steps, a put or any other: those before it wait for it, and those behind it come as
+-- early as it.
+pub record HaveMoment (steps : List Entry) : Type 0 where
+  pub before : List Entry
+  pub moment : Entry
+  pub behind : List Entry
+  pub steps_are : steps ≡ before ++ moment ∷ behind
+  pub wait : AllMayWait before
+  pub come : AllMayComeEarlier (before ++ moment ∷ []) behind
 
 -- ---- cut into events
 
@@ -77,8 +101,8 @@ abbrev pub joined : List (List Entry) → List Entry
 joined [] = []
 joined (steps ∷ more) = steps ++ joined more
 
--- What each core did of these steps, in its order, cut into events. Of an event without steps nothing was
--- done by rings. Only the first so many cores have events.
+-- What each core did of these steps, in its order, cut into events. An event without steps does nothing by
+-- rings, and keeps its place among its core's. Only the first so many cores have events.
 pub record IsCut (cores : ℕ) (log : List Entry) (events : ℕ → List (List Entry)) : Type 0 where
   pub whole : (core : ℕ) → joined (events core) ≡ steps_of core log
   pub each : (core i : ℕ) (steps : List Entry) → get_elem? (events core) i ≡ some steps → IsEvent steps
@@ -114,3 +138,9 @@ pub record EventsInOneOrder (ends : List SideEnd) (before : List Way) (events : 
       → get_elem? d.steps j ≡ some e → (e.core ≡ d.core) × IsByItsCore ends e
   -- it has of each core just these events, in its order
   pub did : (core : ℕ) → events_of core order ≡ events core
+
+-- What each of these cores did, cut into events. No other core has events.
+pub record AreCut (cores : List TheCore) (events : ℕ → List (List Entry)) : Type 0 where
+  pub whole : (i : ℕ) (c : TheCore) → get_elem? cores i ≡ some c → joined (events c.number) ≡ c.steps
+  pub each : (core i : ℕ) (steps : List Entry) → get_elem? (events core) i ≡ some steps → IsEvent steps
+  pub no_more : (core : ℕ) → (IsAmong cores core → ⊥) → events core ≡ []

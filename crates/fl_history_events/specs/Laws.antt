@@ -1,11 +1,14 @@
--- Where steps of many cores have one order, and what each core did is cut into events, the events have one order. Laws.
-use Rattle.std.specs.Prelude.{ℕ, ◌≡◌, ◌++◌, List, ◌∷◌}
+-- Where steps of many cores have one order, and what each core did is cut into events, the events have one
+-- order. Laws.
+use Rattle.std.specs.Prelude.{ℕ, ◌≡◌, ◌⊎◌, List, [], ◌++◌, length}
 use mathlib.Core.Option.{some}
 use lib.ListN.{get_elem?}
 use Rattle.fl_history_rings.specs.declared.board.Entry.{Entry}
 use Rattle.fl_history_rings.specs.declared.board.SideEnd.{SideEnd}
-use Rattle.fl_history_rings.specs.Rings.{Way, Goes, Runs, IsByItsCore}
-use Rattle.fl_history_events.specs.Events.{IsCut, EventsInOneOrder}
+use Rattle.fl_history_rings.specs.Rings.{Way, Goes, Runs, all_empty, IsByItsCore}
+use Rattle.fl_history_rings.specs.Cores.{TheCore, InOneOrder}
+use Rattle.fl_history_rings.specs.Laws.{AllAreAmong}
+use Rattle.fl_history_events.specs.Events.{IsEvent, HaveMoment, IsCut, EventsInOneOrder, AreCut}
 
 -- Law: where steps have one order, each by its core, and what each core did is cut into events, the events
 -- have one order, in which the steps of each stand side by side. It leads to the same.
@@ -14,3 +17,18 @@ EventsHaveOneOrder = (ends : List SideEnd) (before after : List Way) (log : List
     (events : ℕ → List (List Entry)) → Runs (Goes ends) before log after
     → ((i : ℕ) (e : Entry) → get_elem? log i ≡ some e → IsByItsCore ends e)
     → IsCut cores log events → EventsInOneOrder ends before events after
+
+-- Law: so it is of cores that are gathered, where all cores of the sides are.
+abbrev pub GatheredEventsHaveOneOrder : Type 0
+GatheredEventsHaveOneOrder = (ends : List SideEnd) (cores : List TheCore) (order : InOneOrder ends cores)
+    (events : ℕ → List (List Entry)) → AllAreAmong cores ends → AreCut cores events
+    → EventsInOneOrder ends (all_empty (length ends)) events order.queues
+
+-- Law: steps that have a moment are an event, and an event has one, unless it has no step.
+pub record EventsHaveMoments : Type 0 where
+  pub event_has : (steps : List Entry) → IsEvent steps → (steps ≡ []) ⊎ HaveMoment steps
+  pub are_event : (steps : List Entry) → HaveMoment steps → IsEvent steps
+
+-- Law: an event that stopped halfway is an event as far as it came.
+abbrev pub BegunEventsAreEvents : Type 0
+BegunEventsAreEvents = (steps more : List Entry) → IsEvent (steps ++ more) → IsEvent steps
