@@ -123,12 +123,12 @@ events_both k (d ∷ xs) ys =
     dite (ℕ_discrete d.core k)
     (λ here.
     events_here k d (xs ++ ys) here
-        ∙ ap (λ (l : List (List Entry)). d.steps ∷ l) (events_both k xs ys)
-        ∙ ap (λ (l : List (List Entry)). l ++ events_of k ys) (sym (events_here k d xs here)))
+    ∙ ap (λ (l : List (List Entry)). d.steps ∷ l) (events_both k xs ys)
+    ∙ ap (λ (l : List (List Entry)). l ++ events_of k ys) (sym (events_here k d xs here)))
     (λ ne.
     events_else k d (xs ++ ys) ne
-        ∙ events_both k xs ys
-        ∙ ap (λ (l : List (List Entry)). l ++ events_of k ys) (sym (events_else k d xs ne)))
+    ∙ events_both k xs ys
+    ∙ ap (λ (l : List (List Entry)). l ++ events_of k ys) (sym (events_else k d xs ne)))
 
 pub steps_both : (xs ys : List CoreEvent) → all_steps (xs ++ ys) ≡ all_steps xs ++ all_steps ys
 steps_both [] ys = refl

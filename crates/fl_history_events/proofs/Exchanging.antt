@@ -26,17 +26,17 @@ module _ (ends : List SideEnd) (before after : List Way) (e : Entry) (goes : Goe
   pub mine_after : get_elem? after s ≡ some goes.mine_left
   mine_after =
       subst (λ (l : List Way). get_elem? l s ≡ some goes.mine_left) (sym goes.leaves)
-          (set_else mid (mate s) s goes.theirs_left (λ d. mate_apart s (sym d)) ∙ set_here before s goes.mine_left (within before s goes.mine goes.stood))
+      (set_else mid (mate s) s goes.theirs_left (λ d. mate_apart s (sym d)) ∙ set_here before s goes.mine_left (within before s goes.mine goes.stood))
 
   pub theirs_after : get_elem? after (mate s) ≡ some goes.theirs_left
   theirs_after =
       subst (λ (l : List Way). get_elem? l (mate s) ≡ some goes.theirs_left) (sym goes.leaves)
-          (set_here mid (mate s) goes.theirs_left (let far = within before (mate s) goes.theirs goes.stood_back in omega (arith, far, length-set before s goes.mine_left)))
+      (set_here mid (mate s) goes.theirs_left (let far = within before (mate s) goes.theirs goes.stood_back in omega (arith, far, length-set before s goes.mine_left)))
 
   pub else_after : (w : ℕ) → w ≢ s → w ≢ mate s → get_elem? after w ≡ get_elem? before w
   else_after w ne away =
       subst (λ (l : List Way). get_elem? l w ≡ get_elem? before w) (sym goes.leaves)
-          (set_else mid (mate s) w goes.theirs_left away ∙ set_else before s w goes.mine_left ne)
+      (set_else mid (mate s) w goes.theirs_left away ∙ set_else before s w goes.mine_left ne)
 
 -- ---- lists that are changed at some places, in another order
 
@@ -54,9 +54,9 @@ module _ (a : List Way) (s t : ℕ) (apart : s ≢ t) where
   both_orders p p' r q q' z =
       both_in_turn p p' q q'
       ∙ sym (ap (λ (l : List Way). set l t q') (set-set (set a t z) s r p')
-          ∙ set_comm (set a t z) s t p' q' apart
-          ∙ ap (λ (l : List Way). set l s p') (set-set a t z q')
-          ∙ set_comm a t s q' p' apart_back)
+      ∙ set_comm (set a t z) s t p' q' apart
+      ∙ ap (λ (l : List Way). set l s p') (set-set a t z q')
+      ∙ set_comm a t s q' p' apart_back)
 
 four_places : (a : List Way) (s u t v : ℕ) (p q y z : Way) → u ≢ t → s ≢ t → u ≢ v → s ≢ v
     → set (set (set (set a s p) u q) t y) v z ≡ set (set (set (set a t y) v z) s p) u q
@@ -100,7 +100,7 @@ module _ (ends : List SideEnd) (a b c : List Way) (s i j : ℕ) (d g : Action)
   finds : Finds second.end.slots (taken_by d q) (put_to d p) g
   finds =
       subst (λ (x : Way). Finds second.end.slots x (put_to d p) g) mine_is
-          (subst (λ (x : Way). Finds second.end.slots second.mine x g) theirs_is two.0)
+      (subst (λ (x : Way). Finds second.end.slots second.mine x g) theirs_is two.0)
 
   abbrev m : List Way
   m = set (set a t (put_to g q)) (mate t) (taken_by g p)
@@ -202,14 +202,14 @@ module _ (ends : List SideEnd) (a b c : List Way) (e f : Entry) (first : Goes en
           second.leaves
           ∙ ap (λ (l : List Way). set (set l f.side second.mine_left) (mate f.side) second.theirs_left) first.leaves
           ∙ four_places a e.side (mate e.side) f.side (mate f.side) first.mine_left first.theirs_left second.mine_left second.theirs_left
-              (λ d. far (sym d)) (λ d. ne (sym d)) (λ d. back_far (sym d)) (λ d. back_ne (sym d));
+          (λ d. far (sym d)) (λ d. ne (sym d)) (λ d. back_far (sym d)) (λ d. back_ne (sym d));
     }
 
   near : f.side ≡ mate e.side → (f.side ≡ mate e.side → MayChange first.mine.waiting e.action f.action) → Exchanged ends a c e f
   near is may =
       let same : f ≡ entry f.core (mate e.side) f.action = ap (λ (x : ℕ). entry f.core x f.action) is in
       subst (λ (z : Entry). Exchanged ends a c e z) (sym same)
-          (facing ends a b c e.side e.core f.core e.action f.action first (subst (λ (z : Entry). Goes ends b z c) same second) (may is))
+      (facing ends a b c e.side e.core f.core e.action f.action first (subst (λ (z : Entry). Goes ends b z c) same second) (may is))
 
   -- They change places, where they may if they are by the two sides of one ring.
   pub exchanged : (f.side ≡ mate e.side → MayChange first.mine.waiting e.action f.action) → Exchanged ends a c e f

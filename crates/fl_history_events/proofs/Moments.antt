@@ -41,17 +41,18 @@ comes_follow before (x ∷ xs) all_so = (inr all_so.0, comes_follow (before ++ x
 is_event : (steps : List Entry) → HaveMoment steps → IsEvent steps
 is_event steps has =
     subst (λ (l : List Entry). IsEvent l) (sym has.steps_are)
-        (follow_join [] has.before (has.moment ∷ has.behind) (waits_follow [] has.before tt has.wait)
-            (inl has.wait, comes_follow (has.before ++ has.moment ∷ []) has.behind has.come))
+    (follow_join [] has.before (has.moment ∷ has.behind) (waits_follow [] has.before tt has.wait)
+    (inl has.wait, comes_follow (has.before ++ has.moment ∷ []) has.behind has.come))
 
 -- ---- an event has a moment
 
 -- behind what may not all wait, all come earlier
 all_come : (before xs : List Entry) → (AllMayWait before → ⊥) → FollowAll before xs → AllMayComeEarlier before xs
 all_come before [] ne follow = tt
-all_come before (x ∷ xs) ne follow =
-    (⊎_elim (λ wait. absurd (ne wait)) (λ come. come) follow.0,
-    all_come (before ++ x ∷ []) xs (λ wait. ne (all_cut before (x ∷ []) wait).0) follow.1)
+all_come before (x ∷ xs) ne follow = (
+  ⊎_elim (λ wait. absurd (ne wait)) (λ come. come) follow.0,
+  all_come (before ++ x ∷ []) xs (λ wait. ne (all_cut before (x ∷ []) wait).0) follow.1,
+)
 
 moment_here : (before : List Entry) (x : Entry) (xs : List Entry) → AllMayWait before → AllMayComeEarlier (before ++ x ∷ []) xs → HaveMoment (before ++ x ∷ xs)
 moment_here before x xs wait come = record { before = before; moment = x; behind = xs; steps_are = refl; wait = wait; come = come }
@@ -62,7 +63,7 @@ has_moment before x (y ∷ ys) wait follow =
     ⊎_elim
     (λ may.
     subst (λ (l : List Entry). HaveMoment l) (append_assoc before (x ∷ []) (y ∷ ys))
-        (has_moment (before ++ x ∷ []) y ys (all_join before x wait may) follow.1))
+    (has_moment (before ++ x ∷ []) y ys (all_join before x wait may) follow.1))
     (λ ne.
     moment_here before x (y ∷ ys) wait (all_come (before ++ x ∷ []) (y ∷ ys) (λ waits. ne (all_cut before (x ∷ []) waits).1.0) follow))
     (waits_or_not x.action)

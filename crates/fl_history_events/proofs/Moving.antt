@@ -82,7 +82,7 @@ module _ (ends : List SideEnd) where
       let effect = does_finds goes.end.slots goes.mine goes.theirs e.action goes.mine_left goes.theirs_left goes.does in
       let stood : Standing goes.mine.waiting = stands goes.mine (subst (λ (x : ℕ). get_elem? a x ≡ some goes.mine) (sym is) goes.stood) in
       let left : q ≡ put_to e.action goes.mine =
-          same_there b e.side q goes.mine_left (subst (λ (x : ℕ). get_elem? b x ≡ some q) is at) (mine_after ends a b e goes) ∙ effect.1 in
+      same_there b e.side q goes.mine_left (subst (λ (x : ℕ). get_elem? b x ≡ some q) is at) (mine_after ends a b e goes) ∙ effect.1 in
       subst (λ (z : Way). Standing z.waiting) (sym left) (put_stands goes.mine e.action stood))
       (λ away.
       let apart : mate s ≢ mate e.side = λ d. ne (sym (mate_back e.side) ∙ ap mate (sym d) ∙ mate_back s) in
@@ -94,11 +94,11 @@ module _ (ends : List SideEnd) where
   known_step a b e s known goes here stands is q at =
       let effect = does_finds goes.end.slots goes.mine goes.theirs e.action goes.mine_left goes.theirs_left goes.does in
       let stood : known ≡ true → Standing goes.theirs.waiting =
-          λ yes_known. stands yes_known goes.theirs (subst (λ (x : ℕ). get_elem? a (mate x) ≡ some goes.theirs) here goes.stood_back) in
+      λ yes_known. stands yes_known goes.theirs (subst (λ (x : ℕ). get_elem? a (mate x) ≡ some goes.theirs) here goes.stood_back) in
       let left : q ≡ taken_by e.action goes.theirs =
-          same_there b (mate e.side) q goes.theirs_left (subst (λ (x : ℕ). get_elem? b (mate x) ≡ some q) (sym here) at) (theirs_after ends a b e goes) ∙ effect.2 in
+      same_there b (mate e.side) q goes.theirs_left (subst (λ (x : ℕ). get_elem? b (mate x) ≡ some q) (sym here) at) (theirs_after ends a b e goes) ∙ effect.2 in
       subst (λ (z : Way). Standing z.waiting) (sym left)
-          (known_stands goes.end.slots goes.mine goes.theirs e.action known stood effect.0 is)
+      (known_stands goes.end.slots goes.mine goes.theirs e.action known stood effect.0 is)
 
   piece_here : (s : ℕ) (e : Entry) (es : List Entry) → e.side ≡ s → gather one_action s (e ∷ es) ≡ e.action ∷ gather one_action s es
   piece_here s e es is =
@@ -117,12 +117,12 @@ module _ (ends : List SideEnd) where
       dite (ℕ_discrete e.side s)
       (λ here.
       known_run run.0 b s (known_after known e.action) es
-          (λ known_then. known_step a run.0 e s known run.1 here stands known_then) run.2
-          (subst (λ (l : List Action). stands_from known l ≡ true) (piece_here s e es here) is))
+      (λ known_then. known_step a run.0 e s known run.1 here stands known_then) run.2
+      (subst (λ (l : List Action). stands_from known l ≡ true) (piece_here s e es here) is))
       (λ ne.
       known_run run.0 b s known es
-          (λ known_then. stays_standing a run.0 e s run.1 ne (stands known_then)) run.2
-          (subst (λ (l : List Action). stands_from known l ≡ true) (piece_else s e es ne) is))
+      (λ known_then. stays_standing a run.0 e s run.1 ne (stands known_then)) run.2
+      (subst (λ (l : List Action). stands_from known l ≡ true) (piece_else s e es ne) is))
 
   -- ---- earlier
 
@@ -133,9 +133,9 @@ module _ (ends : List SideEnd) where
       let first = run.1 in
       let apart : e.side ≢ y.side = λ d. sides_differ e y by others.1 (λ same. others.0 (same ∙ own)) (sym d) in
       let rest : Ran run.0 (e ∷ ys) c =
-          one_comes run.0 c k e ys known may (λ is. stays_standing a run.0 y e.side first (λ d. apart (sym d)) (stands is)) own by others.2 run.2 in
+      one_comes run.0 c k e ys known may (λ is. stays_standing a run.0 y e.side first (λ d. apart (sym d)) (stands is)) own by others.2 run.2 in
       let back : e.side ≡ mate y.side → mate e.side ≡ y.side = λ d. ap mate d ∙ mate_back y.side in
       let turn = exchanged ends a run.0 rest.0 y e first rest.1 apart
-          (λ across. comes_change first.mine.waiting known y.action e.action may
-              (λ is. stands is first.mine (subst (λ (x : ℕ). get_elem? a x ≡ some first.mine) (sym (back across)) first.stood))) in
+      (λ across. comes_change first.mine.waiting known y.action e.action may
+      (λ is. stands is first.mine (subst (λ (x : ℕ). get_elem? a x ≡ some first.mine) (sym (back across)) first.stood))) in
       (turn.0, turn.1, (rest.0, turn.2, rest.2))

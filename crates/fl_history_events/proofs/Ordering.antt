@@ -9,7 +9,7 @@ use Rattle.fl_history_rings.specs.declared.board.Entry.{Entry}
 use Rattle.fl_history_rings.specs.declared.board.SideEnd.{SideEnd}
 use Rattle.fl_history_rings.specs.Rings.{Way, Goes, Runs, IsByItsCore, steps_of}
 use Rattle.fl_history_rings.proofs.Logs.{then_is, else_is, steps_more, steps_same}
-use Rattle.fl_history_events.specs.Events.{MayFollow, IsEvent, joined, IsCut, CoreEvent, all_steps, events_of}
+use Rattle.fl_history_events.specs.Events.{MayFollow, IsEvent, joined, IsCut, CoreEvent, all_steps, events_of, Happens}
 use Rattle.fl_history_events.specs.Laws.{EventsHaveOneOrder}
 use Rattle.fl_history_events.proofs.Moving.{ByCore, runs_cut}
 use Rattle.fl_history_events.proofs.Cutting.{cons_none, last_or_none, nothing_joined, at_middle, follow_cut, LastStep, last_step, events_both, steps_both, last_event, each_of, each_own, each_else, each_steps}
@@ -74,10 +74,10 @@ module _ (ends : List SideEnd) (start : List Way) where
         ∙ dite (ℕ_discrete c n)
         (λ here.
         ap (λ (l : List (List Entry)). l ++ events_of c (each_of n (events n))) (above n c (omega (arith, here)))
-            ∙ subst (λ (x : ℕ). events_of x (each_of n (events n)) ≡ events x) (sym here) (each_own n (events n)))
+        ∙ subst (λ (x : ℕ). events_of x (each_of n (events n)) ≡ events x) (sym here) (each_own n (events n)))
         (λ ne.
         ap (λ (l : List (List Entry)). events_of c (up_to n) ++ l) (each_else n c (events n) (λ d. ne (sym d)))
-            ∙ append-nil (events_of c (up_to n)) ∙ below n c (omega (arith, near, ne)))
+        ∙ append-nil (events_of c (up_to n)) ∙ below n c (omega (arith, near, ne)))
 
     nothing_done : (cores : ℕ) (after : List Way) → start ≡ after → ((core : ℕ) → cores ≤ core → events core ≡ no_events) → Ordered events after
     nothing_done cores after same within = record {
@@ -112,8 +112,8 @@ module _ (ends : List SideEnd) (start : List Way) where
     is_event : IsEvent (found.last ++ e ∷ [])
     is_event =
         cut.each k (length found.before) (found.last ++ e ∷ [])
-            (subst (λ (l : List (List Entry)). get_elem? l (length found.before) ≡ some (found.last ++ e ∷ [])) (sym found.pieces_are)
-                (at_middle found.before (found.last ++ e ∷ []) found.behind))
+        (subst (λ (l : List (List Entry)). get_elem? l (length found.before) ≡ some (found.last ++ e ∷ [])) (sym found.pieces_are)
+        (at_middle found.before (found.last ++ e ∷ []) found.behind))
 
     begun : IsEvent found.last × MayFollow found.last e
     begun = follow_cut [] found.last e is_event
@@ -122,8 +122,8 @@ module _ (ends : List SideEnd) (start : List Way) where
     each_here i steps at =
         ⊎_elim
         (λ before_at. cut.each k i steps
-            (subst (λ (l : List (List Entry)). get_elem? l i ≡ some steps) (sym found.pieces_are)
-                (at_longer found.before ((found.last ++ e ∷ []) ∷ found.behind) i steps before_at)))
+        (subst (λ (l : List (List Entry)). get_elem? l i ≡ some steps) (sym found.pieces_are)
+        (at_longer found.before ((found.last ++ e ∷ []) ∷ found.behind) i steps before_at)))
         (λ same. subst (λ (l : List Entry). IsEvent l) same begun.0)
         (at_snoc found.before found.last steps i at)
 
@@ -154,7 +154,7 @@ module _ (ends : List SideEnd) (start : List Way) where
       taken : TakesIn ends start before.order k found.before found.last e after
       taken =
           takes_in ends start m after before.order k found.before found.last e before.runs goes before.each
-              (last_event k before.order found.before found.last (before.did k ∙ fewer_here k refl)) refl by begun.1
+          (last_event k before.order found.before found.last (before.did k ∙ fewer_here k refl)) refl by begun.1
 
       -- behind it come events of its core without steps
       abbrev idle : List CoreEvent
@@ -172,8 +172,8 @@ module _ (ends : List SideEnd) (start : List Way) where
         order = taken.with ++ idle;
         runs =
             subst (λ (l : List Entry). Ran l after)
-                (sym (steps_both taken.with idle ∙ ap (λ (l : List Entry). all_steps taken.with ++ l) (each_steps k found.behind ∙ found.none) ∙ append-nil (all_steps taken.with)))
-                taken.runs;
+            (sym (steps_both taken.with idle ∙ ap (λ (l : List Entry). all_steps taken.with ++ l) (each_steps k found.behind ∙ found.none) ∙ append-nil (all_steps taken.with)))
+            taken.runs;
         each = each_join ends taken.with idle taken.each (each_none k found.behind found.none);
         did = λ c.
             events_both c taken.with idle
@@ -181,7 +181,7 @@ module _ (ends : List SideEnd) (start : List Way) where
             (λ here. subst (λ (x : ℕ). events_of x taken.with ++ events_of x idle ≡ events x) (sym here) own_so)
             (λ ne.
             ap (λ (l : List (List Entry)). events_of c taken.with ++ l) (each_else k c found.behind (λ d. ne (sym d)))
-                ∙ append-nil (events_of c taken.with) ∙ taken.others c ne ∙ before.did c ∙ fewer_else c ne);
+            ∙ append-nil (events_of c taken.with) ∙ taken.others c ne ∙ before.did c ∙ fewer_else c ne);
       }
 
   -- ---- all steps
@@ -194,7 +194,7 @@ module _ (ends : List SideEnd) (start : List Way) where
       let parts = runs_cut (Goes ends) start after es (e ∷ []) run in
       let goes : Goes ends parts.0 e after = subst (λ (w : List Way). Goes ends parts.0 e w) parts.2.2 parts.2.1 in
       with_step cores es e events cut parts.0 after goes (by (length es) e (at_last es e (length es) refl))
-          (order (fewer cores es e events cut) parts.0 parts.1 (λ i d at. by i d (at_longer es (e ∷ []) i d at)) (cut_fewer cores es e events cut))
+      (order (fewer cores es e events cut) parts.0 parts.1 (λ i d at. by i d (at_longer es (e ∷ []) i d at)) (cut_fewer cores es e events cut))
 
   ordered : (n : ℕ) (log : List Entry) (cores : ℕ) (events : ℕ → List (List Entry)) (after : List Way) → length log ≡ n → Ran log after → AllByCores log
       → IsCut cores log events → Ordered events after
@@ -207,10 +207,10 @@ module _ (ends : List SideEnd) (start : List Way) where
       let is = parts.2 in
       let shorter : length parts.0 ≡ n = omega (arith, long, ap length is, length-append parts.0 (parts.1 ∷ [])) in
       one_step_more cores parts.0 parts.1 events after
-          (subst (λ (l : List Entry). IsCut cores l events) is cut)
-          (subst (λ (l : List Entry). Ran l after) is run)
-          (subst (λ (l : List Entry). AllByCores l) is by)
-          (λ fewer m run_then by_then cut_then. ordered n parts.0 cores fewer m shorter run_then by_then cut_then))
+      (subst (λ (l : List Entry). IsCut cores l events) is cut)
+      (subst (λ (l : List Entry). Ran l after) is run)
+      (subst (λ (l : List Entry). AllByCores l) is by)
+      (λ fewer m run_then by_then cut_then. ordered n parts.0 cores fewer m shorter run_then by_then cut_then))
       (last_or_none log)
 
 -- ---- the law
@@ -229,11 +229,20 @@ module _ (ends : List SideEnd) where
       of_core d.core d.steps (subst (λ (z : CoreEvent). ByCore ends z.core z.steps) (some-injective x d at) each.0) j e there
   of_cores (x ∷ xs) each (suc i) j d e at there = of_cores xs each.1 i j d e at there
 
+-- what is done in this order is done event by event
+happen : (ends : List SideEnd) (before after : List Way) (order : List CoreEvent) → Runs (Goes ends) before (all_steps order) after
+    → Runs (Happens ends) before order after
+happen ends before after [] run = run
+happen ends before after (d ∷ ds) run =
+    let parts = runs_cut (Goes ends) before after d.steps (all_steps ds) run in
+    (parts.0, parts.1, happen ends parts.0 after ds parts.2)
+
 pub events_have_one_order : EventsHaveOneOrder
 events_have_one_order = λ ends before after log cores events run by cut.
     let all_so : Ordered ends before events after = ordered ends before (length log) log cores events after refl run by cut in
     record {
       order = all_so.order;
+      happen = happen ends before after all_so.order all_so.runs;
       runs = all_so.runs;
       by_its_core = of_cores ends all_so.order all_so.each;
       did = all_so.did;

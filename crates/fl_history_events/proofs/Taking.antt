@@ -78,8 +78,8 @@ module _ (ends : List SideEnd) where
     parts : (a : List Way) × Ran start before a × Ran a (last ++ behind) m
     parts =
         runs_cut (Goes ends) start m before (last ++ behind)
-            (subst (λ (l : List Entry). Ran start l m)
-                (ap all_steps found.order_is ∙ steps_both found.before (event k last ∷ found.behind)) run)
+        (subst (λ (l : List Entry). Ran start l m)
+        (ap all_steps found.order_is ∙ steps_both found.before (event k last ∷ found.behind)) run)
 
     with_own : ByCore ends k (last ++ e ∷ [])
     with_own = one_more k last e each_parts.1.0 own by
@@ -114,8 +114,8 @@ module _ (ends : List SideEnd) where
       later_runs =
           let moved : Ran parts.0 (behind ++ last) m = all_wait ends parts.0 m k last behind waits each_parts.1.0 others_behind parts.2 in
           subst (λ (l : List Entry). Ran start l after) (sym later_steps)
-              (runs_join (Goes ends) start parts.0 after before ((behind ++ last) ++ e ∷ []) parts.1
-                  (runs_more (Goes ends) parts.0 (behind ++ last) m after e moved goes))
+          (runs_join (Goes ends) start parts.0 after before ((behind ++ last) ++ e ∷ []) parts.1
+          (runs_more (Goes ends) parts.0 (behind ++ last) m after e moved goes))
 
       takes_later : TakesIn start order k rest last e after
       takes_later = record {
@@ -126,10 +126,10 @@ module _ (ends : List SideEnd) where
             events_both k (found.before ++ found.behind) (with_e ∷ [])
             ∙ ap (λ (l : List (List Entry)). events_of k (found.before ++ found.behind) ++ l) (events_here k with_e [] refl)
             ∙ ap (λ (l : List (List Entry)). l ++ (last ++ e ∷ []) ∷ [])
-                (events_both k found.before found.behind
-                ∙ ap (λ (l : List (List Entry)). events_of k found.before ++ l) found.none_behind
-                ∙ append-nil (events_of k found.before)
-                ∙ found.rest_is);
+            (events_both k found.before found.behind
+            ∙ ap (λ (l : List (List Entry)). events_of k found.before ++ l) found.none_behind
+            ∙ append-nil (events_of k found.before)
+            ∙ found.rest_is);
         others = λ j ne.
             events_both j (found.before ++ found.behind) (with_e ∷ [])
             ∙ ap (λ (l : List (List Entry)). events_of j (found.before ++ found.behind) ++ l) (events_else j with_e [] (λ d. ne (sym d)))
@@ -151,16 +151,16 @@ module _ (ends : List SideEnd) where
           let stands : known_to_stand e.side last ≡ true → StandsFor ends e.side two.0 = known_run ends parts.0 two.0 e.side false last nothing two.1 in
           let more : Ran two.0 (behind ++ e ∷ []) after = runs_more (Goes ends) two.0 behind m after e two.2 goes in
           let moved : Ran two.0 (e ∷ behind) after =
-              one_comes ends two.0 after k e behind (known_to_stand e.side last) comes stands own by others_behind more in
+          one_comes ends two.0 after k e behind (known_to_stand e.side last) comes stands own by others_behind more in
           subst (λ (l : List Entry). Ran parts.0 l after) (sym (append_assoc last (e ∷ []) behind))
-              (runs_join (Goes ends) parts.0 two.0 after last (e ∷ behind) two.1 moved)
+          (runs_join (Goes ends) parts.0 two.0 after last (e ∷ behind) two.1 moved)
 
       takes_earlier : TakesIn start order k rest last e after
       takes_earlier = record {
         with = earlier;
         runs =
             subst (λ (l : List Entry). Ran start l after) (sym (steps_both found.before (with_e ∷ found.behind)))
-                (runs_join (Goes ends) start parts.0 after before ((last ++ e ∷ []) ++ behind) parts.1 come);
+            (runs_join (Goes ends) start parts.0 after before ((last ++ e ∷ []) ++ behind) parts.1 come);
         each = each_join found.before (with_e ∷ found.behind) each_parts.0 (with_own, each_parts.1.1);
         own =
             events_both k found.before (with_e ∷ found.behind)

@@ -10,8 +10,6 @@ use Rattle.fl_history_rings.specs.declared.board.Entry.{Entry}
 use Rattle.fl_history_rings.specs.declared.board.SideEnd.{SideEnd}
 use Rattle.fl_history_rings.specs.Rings.{Way, Goes, Runs, IsByItsCore, steps_of}
 use Rattle.fl_history_rings.specs.Rule.{gather, one_action}
-use Rattle.fl_history_rings.specs.Cores.{TheCore}
-use Rattle.fl_history_rings.specs.Laws.{IsAmong}
 
 -- ---- what can be had later, and what earlier
 
@@ -127,20 +125,20 @@ abbrev pub events_of : ℕ → List CoreEvent → List (List Entry)
 events_of core [] = []
 events_of core (e ∷ es) = if e.core == core then e.steps ∷ events_of core es else events_of core es
 
+-- all of an event, at one moment
+abbrev pub Happens : List SideEnd → List Way → CoreEvent → List Way → Type 0
+Happens ends before e after = Runs (Goes ends) before e.steps after
+
 -- One order of these events of cores, from how the ways stood before to how they stand after.
 pub record EventsInOneOrder (ends : List SideEnd) (before : List Way) (events : ℕ → List (List Entry))
     (after : List Way) : Type 0 where
   pub order : List CoreEvent
-  -- Each step finds how its ring stands at that moment, and no step of another event comes between two of one.
+  -- All of each event happens at one moment: each of its steps finds how its ring stands then.
+  pub happen : Runs (Happens ends) before order after
+  -- So no step of another event comes between two of one.
   pub runs : Runs (Goes ends) before (all_steps order) after
   -- the steps of each are its core's, by sides of that core
   pub by_its_core : (i j : ℕ) (d : CoreEvent) (e : Entry) → get_elem? order i ≡ some d
       → get_elem? d.steps j ≡ some e → (e.core ≡ d.core) × IsByItsCore ends e
   -- it has of each core just these events, in its order
   pub did : (core : ℕ) → events_of core order ≡ events core
-
--- What each of these cores did, cut into events. No other core has events.
-pub record AreCut (cores : List TheCore) (events : ℕ → List (List Entry)) : Type 0 where
-  pub whole : (i : ℕ) (c : TheCore) → get_elem? cores i ≡ some c → joined (events c.number) ≡ c.steps
-  pub each : (core i : ℕ) (steps : List Entry) → get_elem? (events core) i ≡ some steps → IsEvent steps
-  pub no_more : (core : ℕ) → (IsAmong cores core → ⊥) → events core ≡ []

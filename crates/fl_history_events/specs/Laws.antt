@@ -1,14 +1,15 @@
 -- Where steps of many cores have one order, and what each core did is cut into events, the events have one
 -- order. Laws.
-use Rattle.std.specs.Prelude.{ℕ, ◌≡◌, ◌⊎◌, List, [], ◌++◌, length}
+use Rattle.std.specs.Prelude.{ℕ, ◌≡◌, ◌⊎◌, List, [], ◌++◌}
 use mathlib.Core.Option.{some}
 use lib.ListN.{get_elem?}
 use Rattle.fl_history_rings.specs.declared.board.Entry.{Entry}
 use Rattle.fl_history_rings.specs.declared.board.SideEnd.{SideEnd}
-use Rattle.fl_history_rings.specs.Rings.{Way, Goes, Runs, all_empty, IsByItsCore}
+use Rattle.fl_history_rings.specs.Rings.{Way, Goes, Runs, IsByItsCore}
 use Rattle.fl_history_rings.specs.Cores.{TheCore, InOneOrder}
 use Rattle.fl_history_rings.specs.Laws.{AllAreAmong}
-use Rattle.fl_history_events.specs.Events.{IsEvent, HaveMoment, IsCut, EventsInOneOrder, AreCut}
+use Rattle.fl_history_events.specs.Events.{IsEvent, HaveMoment, IsCut, EventsInOneOrder}
+use Rattle.fl_history_events.specs.Gathered.{AreCut, GatheredInOneOrder}
 
 -- Law: where steps have one order, each by its core, and what each core did is cut into events, the events
 -- have one order, in which the steps of each stand side by side. It leads to the same.
@@ -18,11 +19,12 @@ EventsHaveOneOrder = (ends : List SideEnd) (before after : List Way) (log : List
     → ((i : ℕ) (e : Entry) → get_elem? log i ≡ some e → IsByItsCore ends e)
     → IsCut cores log events → EventsInOneOrder ends before events after
 
--- Law: so it is of cores that are gathered, where all cores of the sides are.
+-- Law: so it is of cores that are gathered, where all cores of the sides are. Their steps in the order of the
+-- events have one order again, with the same in the ways in the end.
 abbrev pub GatheredEventsHaveOneOrder : Type 0
 GatheredEventsHaveOneOrder = (ends : List SideEnd) (cores : List TheCore) (order : InOneOrder ends cores)
     (events : ℕ → List (List Entry)) → AllAreAmong cores ends → AreCut cores events
-    → EventsInOneOrder ends (all_empty (length ends)) events order.queues
+    → GatheredInOneOrder ends cores events order.queues
 
 -- Law: steps that have a moment are an event, and an event has one, unless it has no step.
 pub record EventsHaveMoments : Type 0 where
