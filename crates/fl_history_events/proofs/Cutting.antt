@@ -1,10 +1,12 @@
 -- What is joined of pieces, and its last step; the events of a core in an order of events, and the last of them.
-use Rattle.std.proofs.Common.{ℕ, zero, ◌≡◌, ◌≢◌, ◌⊎◌, inl, inr, ⊎_elim, ◌==◌, eq-eqb, ne_eqb, List, [], ◌∷◌, ◌++◌, length, get_or, ap, subst, ◌∙◌, sym, refl, append_assoc, append-nil}
+use Rattle.std.proofs.Common.{ℕ, zero, ◌≡◌, ◌≢◌, ◌⊎◌, inl, inr, ⊎_elim, ◌==◌, if◌then◌else◌, eq-eqb, ne_eqb, List, [], ◌∷◌, ◌++◌, length, get_or, ap, subst, ◌∙◌, sym, refl, append_assoc, append-nil}
 use mathlib.Core.Logic.{dite}
 use mathlib.Core.Option.{some}
 use native.Mathlib.Decide.{ℕ_discrete}
 use lib.ListN.{get_elem?}
+use Rattle.fl_history_rings.specs.declared.board.Action.{Action}
 use Rattle.fl_history_rings.specs.declared.board.Entry.{Entry}
+use Rattle.fl_history_rings.specs.Rule.{gather}
 use Rattle.fl_history_rings.proofs.Logs.{then_is, else_is}
 use Rattle.fl_history_events.specs.Events.{MayFollow, FollowAll, joined, CoreEvent, event, all_steps, events_of}
 
@@ -56,11 +58,19 @@ module _ {A : Type 0} where
 -- ---- an event that is begun
 
 -- of steps that follow one another the first do, and the last follows them
-pub follow_cut : (before xs : List Entry) (e : Entry) → FollowAll before (xs ++ e ∷ []) → FollowAll before xs × MayFollow (before ++ xs) e
-follow_cut before [] e follow = (tt, subst (λ (l : List Entry). MayFollow l e) (sym (append-nil before)) follow.0)
-follow_cut before (x ∷ xs) e follow =
-    let rest = follow_cut (before ++ x ∷ []) xs e follow.1 in
-    ((follow.0, rest.0), subst (λ (l : List Entry). MayFollow l e) (append_assoc before (x ∷ []) xs) rest.1)
+pub follow_cut : (past before xs : List Entry) (e : Entry) → FollowAll past before (xs ++ e ∷ []) → FollowAll past before xs × MayFollow past (before ++ xs) e
+follow_cut past before [] e follow = (tt, subst (λ (l : List Entry). MayFollow past l e) (sym (append-nil before)) follow.0)
+follow_cut past before (x ∷ xs) e follow =
+    let rest = follow_cut past (before ++ x ∷ []) xs e follow.1 in
+    ((follow.0, rest.0), subst (λ (l : List Entry). MayFollow past l e) (append_assoc before (x ∷ []) xs) rest.1)
+
+-- ---- of steps those by one side
+
+pub gather_join : {A : Type 0} (f : Action → List A) (s : ℕ) (xs ys : List Entry) → gather f s (xs ++ ys) ≡ gather f s xs ++ gather f s ys
+gather_join f s [] ys = refl
+gather_join {A} f s (x ∷ xs) ys =
+    let here : List A = if x.side == s then f x.action else [] in
+    ap (λ (l : List A). here ++ l) (gather_join f s xs ys) ∙ sym (append_assoc here (gather f s xs) (gather f s ys))
 
 -- ---- the last step of pieces
 

@@ -44,7 +44,7 @@ module _ (ends : List SideEnd) where
   ByOthers k [] = Unit {0}
   ByOthers k (e ∷ es) = (e.core ≢ k) × IsByItsCore ends e × ByOthers k es
 
-  sides_differ : (e f : Entry) → IsByItsCore ends e → IsByItsCore ends f → f.core ≢ e.core → f.side ≢ e.side
+  pub sides_differ : (e f : Entry) → IsByItsCore ends e → IsByItsCore ends f → f.core ≢ e.core → f.side ≢ e.side
   sides_differ e f (one, one_at, one_by) (two, two_at, two_by) ne same =
       let both : two ≡ one = same_there ends e.side two one (subst (λ (s : ℕ). get_elem? ends s ≡ some two) same two_at) one_at in
       ne (two_by ∙ ap (λ (z : SideEnd). z.core) both ∙ sym one_by)
@@ -105,7 +105,7 @@ module _ (ends : List SideEnd) where
       let none : List Action = [] in
       ap (λ (l : List Action). l ++ gather one_action s es) (then_is (e.side == s) (one_action e.action) none (eq-eqb e.side s is))
 
-  piece_else : (s : ℕ) (e : Entry) (es : List Entry) → e.side ≢ s → gather one_action s (e ∷ es) ≡ gather one_action s es
+  pub piece_else : (s : ℕ) (e : Entry) (es : List Entry) → e.side ≢ s → gather one_action s (e ∷ es) ≡ gather one_action s es
   piece_else s e es ne =
       let none : List Action = [] in
       ap (λ (l : List Action). l ++ gather one_action s es) (else_is (e.side == s) (one_action e.action) none (ne_eqb e.side s ne))

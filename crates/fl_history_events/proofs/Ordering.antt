@@ -4,15 +4,15 @@ use mathlib.Core.Logic.{dite}
 use mathlib.Core.Option.{some, some-injective, some-ne-none}
 use native.Mathlib.Decide.{dec_le, ℕ_discrete}
 use lib.ListN.{get_elem?}
-use Rattle.atomic_table.proofs.Lists.{at_longer, at_last, at_snoc}
+use Rattle.atomic_table.proofs.Lists.{at_longer, at_last}
 use Rattle.fl_history_rings.specs.declared.board.Entry.{Entry}
 use Rattle.fl_history_rings.specs.declared.board.SideEnd.{SideEnd}
 use Rattle.fl_history_rings.specs.Rings.{Way, Goes, Runs, IsByItsCore, steps_of}
 use Rattle.fl_history_rings.proofs.Logs.{then_is, else_is, steps_more, steps_same}
-use Rattle.fl_history_events.specs.Events.{MayFollow, IsEvent, joined, IsCut, CoreEvent, all_steps, events_of, Happens}
+use Rattle.fl_history_events.specs.Events.{MayFollow, IsEventAfter, joined, AreEvents, IsCut, CoreEvent, all_steps, events_of, Happens}
 use Rattle.fl_history_events.specs.Laws.{EventsHaveOneOrder}
 use Rattle.fl_history_events.proofs.Moving.{ByCore, runs_cut}
-use Rattle.fl_history_events.proofs.Cutting.{cons_none, last_or_none, nothing_joined, at_middle, follow_cut, LastStep, last_step, events_both, steps_both, last_event, each_of, each_own, each_else, each_steps}
+use Rattle.fl_history_events.proofs.Cutting.{cons_none, last_or_none, snoc_same, nothing_joined, follow_cut, LastStep, last_step, events_both, steps_both, last_event, each_of, each_own, each_else, each_steps}
 use Rattle.fl_history_events.proofs.Taking.{EachByCore, each_join, TakesIn, takes_in}
 
 module _ (ends : List SideEnd) (start : List Way) where
@@ -109,23 +109,36 @@ module _ (ends : List SideEnd) (start : List Way) where
     fewer_else : (c : ℕ) → c ≢ k → fewer c ≡ events c
     fewer_else c ne = else_is (c == k) (found.before ++ found.last ∷ []) (events c) (ne_eqb c k ne)
 
-    is_event : IsEvent (found.last ++ e ∷ [])
-    is_event =
-        cut.each k (length found.before) (found.last ++ e ∷ [])
-        (subst (λ (l : List (List Entry)). get_elem? l (length found.before) ≡ some (found.last ++ e ∷ [])) (sym found.pieces_are)
-        (at_middle found.before (found.last ++ e ∷ []) found.behind))
+    is_event : IsEventAfter (joined found.before) (found.last ++ e ∷ [])
+    is_event = cut.each k found.before found.behind (found.last ++ e ∷ []) found.pieces_are
 
-    begun : IsEvent found.last × MayFollow found.last e
-    begun = follow_cut [] found.last e is_event
+    begun : IsEventAfter (joined found.before) found.last × MayFollow (joined found.before) found.last e
+    begun = follow_cut (joined found.before) [] found.last e is_event
 
-    each_here : (i : ℕ) (steps : List Entry) → get_elem? (found.before ++ found.last ∷ []) i ≡ some steps → IsEvent steps
-    each_here i steps at =
+    -- one of these pieces is the last of them, or comes before
+    each_before : (xs ys zs : List (List Entry)) (steps z : List Entry) → found.before ++ found.last ∷ [] ≡ xs ++ steps ∷ ys → ys ≡ zs ++ z ∷ []
+        → IsEventAfter (joined xs) steps
+    each_before xs ys zs steps z is so =
+        let split : found.before ++ found.last ∷ [] ≡ (xs ++ steps ∷ zs) ++ z ∷ [] =
+        is ∙ ap (λ (l : List (List Entry)). xs ++ steps ∷ l) so ∙ sym (append_assoc xs (steps ∷ zs) (z ∷ [])) in
+        let same = snoc_same found.before (xs ++ steps ∷ zs) found.last z split in
+        cut.each k xs (zs ++ (found.last ++ e ∷ []) ∷ found.behind) steps
+        (found.pieces_are ∙ ap (λ (l : List (List Entry)). l ++ (found.last ++ e ∷ []) ∷ found.behind) same.0
+        ∙ append_assoc xs (steps ∷ zs) ((found.last ++ e ∷ []) ∷ found.behind))
+
+    each_last : (xs ys : List (List Entry)) (steps : List Entry) → found.before ++ found.last ∷ [] ≡ xs ++ steps ∷ ys
+        → (let no_more : List (List Entry) = [] in ys ≡ no_more) → IsEventAfter (joined xs) steps
+    each_last xs ys steps is so =
+        let same = snoc_same found.before xs found.last steps (is ∙ ap (λ (l : List (List Entry)). xs ++ steps ∷ l) so) in
+        subst (λ (l : List (List Entry)). IsEventAfter (joined l) steps) same.0
+        (subst (λ (l : List Entry). IsEventAfter (joined found.before) l) same.1 begun.0)
+
+    each_here : AreEvents (found.before ++ found.last ∷ [])
+    each_here xs ys steps is =
         ⊎_elim
-        (λ before_at. cut.each k i steps
-        (subst (λ (l : List (List Entry)). get_elem? l i ≡ some steps) (sym found.pieces_are)
-        (at_longer found.before ((found.last ++ e ∷ []) ∷ found.behind) i steps before_at)))
-        (λ same. subst (λ (l : List Entry). IsEvent l) same begun.0)
-        (at_snoc found.before found.last steps i at)
+        (λ none_left. each_last xs ys steps is none_left)
+        (λ parts. each_before xs ys parts.0 steps parts.1 is parts.2)
+        (last_or_none ys)
 
     some_there : (c : ℕ) → c ≡ k → (let no_events : List (List Entry) = [] in events c ≡ no_events) → ⊥
     some_there c here nothing = middle_there found.before (found.last ++ e ∷ []) found.behind (sym found.pieces_are ∙ ap events (sym here) ∙ nothing)
@@ -140,10 +153,10 @@ module _ (ends : List SideEnd) (start : List Way) where
           dite (ℕ_discrete c k)
           (λ here. ap joined (fewer_here c here) ∙ found.without ∙ ap (λ (x : ℕ). steps_of x es) (sym here))
           (λ ne. ap joined (fewer_else c ne) ∙ cut.whole c ∙ steps_same c es e (λ d. ne (sym d)));
-      each = λ c i steps at.
+      each = λ c.
           dite (ℕ_discrete c k)
-          (λ here. each_here i steps (subst (λ (l : List (List Entry)). get_elem? l i ≡ some steps) (fewer_here c here) at))
-          (λ ne. cut.each c i steps (subst (λ (l : List (List Entry)). get_elem? l i ≡ some steps) (fewer_else c ne) at));
+          (λ here. subst (λ (l : List (List Entry)). AreEvents l) (sym (fewer_here c here)) each_here)
+          (λ ne. subst (λ (l : List (List Entry)). AreEvents l) (sym (fewer_else c ne)) (cut.each c));
       within = λ c far.
           dite (ℕ_discrete c k)
           (λ here. absurd (some_there c here (cut.within c far)))

@@ -3,13 +3,15 @@ use Rattle.std.proofs.Common.{ℕ, ◌≡◌, ◌≢◌, ⊎_elim, true, false, 
 use Rattle.std.proofs.lemmas.Bool.{false≢true}
 use mathlib.Core.Logic.{dite}
 use native.Mathlib.Decide.{ℕ_discrete}
+use Rattle.fl_history_rings.specs.declared.board.Action.{Action}
 use Rattle.fl_history_rings.specs.declared.board.Entry.{Entry}
 use Rattle.fl_history_rings.specs.declared.board.SideEnd.{SideEnd}
 use Rattle.fl_history_rings.specs.Rings.{Way, Goes, Runs, IsByItsCore}
+use Rattle.fl_history_rings.specs.Rule.{gather, one_action}
 use Rattle.fl_history_rings.proofs.Logs.{runs_more}
-use Rattle.fl_history_events.specs.Events.{AllMayWait, MayComeEarlier, known_to_stand, MayFollow, CoreEvent, event, all_steps, events_of}
-use Rattle.fl_history_events.proofs.Moving.{runs_join, runs_cut, ByCore, ByOthers, all_wait, StandsFor, known_run, one_comes}
-use Rattle.fl_history_events.proofs.Cutting.{cons_none, events_here, events_else, events_both, steps_both, LastEvent}
+use Rattle.fl_history_events.specs.Events.{AllMayWait, MayComeEarlier, stands_from, known_to_stand, MayFollow, joined, CoreEvent, event, all_steps, events_of}
+use Rattle.fl_history_events.proofs.Moving.{runs_join, runs_cut, ByCore, ByOthers, sides_differ, all_wait, StandsFor, piece_else, known_run, one_comes}
+use Rattle.fl_history_events.proofs.Cutting.{cons_none, gather_join, events_here, events_else, events_both, steps_both, LastEvent}
 
 module _ (ends : List SideEnd) where
   abbrev Ran : List Way → List Entry → List Way → Type 0
@@ -45,6 +47,31 @@ module _ (ends : List SideEnd) where
       dite (ℕ_discrete d.core k)
       (λ here. absurd (cons_none d.steps (events_of k ds) (sym (events_here k d ds here) ∙ is)))
       (λ ne. others_join k d.core d.steps (all_steps ds) ne each.0 (none_behind k ds each.1 (sym (events_else k d ds ne) ∙ is)))
+
+  -- ---- what was done by a side
+
+  -- nothing by another core
+  not_by_side : (k j : ℕ) (e : Entry) (steps : List Entry) → e.core ≡ k → IsByItsCore ends e → j ≢ k → ByCore ends j steps
+      → (let none : List Action = [] in gather one_action e.side steps ≡ none)
+  not_by_side k j e [] is by ne own = refl
+  not_by_side k j e (x ∷ xs) is by ne own =
+      piece_else ends e.side x xs (sides_differ ends e x by own.1 (λ d. ne (sym own.0 ∙ d ∙ is)))
+      ∙ not_by_side k j e xs is by ne own.2
+
+  -- so all of it is in its core's events
+  by_its_side : (k : ℕ) (e : Entry) (ds : List CoreEvent) → e.core ≡ k → IsByItsCore ends e → EachByCore ds
+      → gather one_action e.side (all_steps ds) ≡ gather one_action e.side (joined (events_of k ds))
+  by_its_side k e [] is by each = refl
+  by_its_side k e (d ∷ ds) is by each =
+      gather_join one_action e.side d.steps (all_steps ds)
+      ∙ ap (λ (l : List Action). gather one_action e.side d.steps ++ l) (by_its_side k e ds is by each.1)
+      ∙ dite (ℕ_discrete d.core k)
+      (λ here.
+      sym (gather_join one_action e.side d.steps (joined (events_of k ds)))
+      ∙ ap (λ (l : List (List Entry)). gather one_action e.side (joined l)) (sym (events_here k d ds here)))
+      (λ ne.
+      ap (λ (l : List Action). l ++ gather one_action e.side (joined (events_of k ds))) (not_by_side k d.core e d.steps is by ne each.0)
+      ∙ ap (λ (l : List (List Entry)). gather one_action e.side (joined l)) (sym (events_else k d ds ne)))
 
   -- ---- one step more
 
@@ -140,18 +167,28 @@ module _ (ends : List SideEnd) where
 
     -- ---- the step comes earlier
 
-    module _ (comes : MayComeEarlier (known_to_stand e.side last) e.action) where
+    module _ (comes : MayComeEarlier (known_to_stand e.side (joined rest ++ last)) e.action) where
+      -- what the core did by that side, up to this event
+      done_so : gather one_action e.side (joined rest ++ last) ≡ gather one_action e.side (before ++ last)
+      done_so =
+          ap (λ (l : List (List Entry)). gather one_action e.side (joined l ++ last)) (sym found.rest_is)
+          ∙ gather_join one_action e.side (joined (events_of k found.before)) last
+          ∙ ap (λ (l : List Action). l ++ gather one_action e.side last) (sym (by_its_side k e found.before own by each_parts.0))
+          ∙ sym (gather_join one_action e.side before last)
+
       abbrev earlier : List CoreEvent
       earlier = found.before ++ with_e ∷ found.behind
 
       come : Ran parts.0 ((last ++ e ∷ []) ++ behind) after
       come =
           let two = runs_cut (Goes ends) parts.0 m last behind parts.2 in
-          let nothing : false ≡ true → StandsFor ends e.side parts.0 = λ is. absurd (false≢true is) in
-          let stands : known_to_stand e.side last ≡ true → StandsFor ends e.side two.0 = known_run ends parts.0 two.0 e.side false last nothing two.1 in
+          let nothing : false ≡ true → StandsFor ends e.side start = λ is. absurd (false≢true is) in
+          let whole : Ran start (before ++ last) two.0 = runs_join (Goes ends) start parts.0 two.0 before last parts.1 two.1 in
+          let stands : known_to_stand e.side (joined rest ++ last) ≡ true → StandsFor ends e.side two.0 =
+          λ is. known_run ends start two.0 e.side false (before ++ last) nothing whole (subst (λ (l : List Action). stands_from false l ≡ true) done_so is) in
           let more : Ran two.0 (behind ++ e ∷ []) after = runs_more (Goes ends) two.0 behind m after e two.2 goes in
           let moved : Ran two.0 (e ∷ behind) after =
-          one_comes ends two.0 after k e behind (known_to_stand e.side last) comes stands own by others_behind more in
+          one_comes ends two.0 after k e behind (known_to_stand e.side (joined rest ++ last)) comes stands own by others_behind more in
           subst (λ (l : List Entry). Ran parts.0 l after) (sym (append_assoc last (e ∷ []) behind))
           (runs_join (Goes ends) parts.0 two.0 after last (e ∷ behind) two.1 moved)
 
@@ -170,5 +207,5 @@ module _ (ends : List SideEnd) where
         others = λ j ne. around j ne (last ++ e ∷ []) ∙ sym (order_around j ne);
       }
 
-    pub takes_in : MayFollow last e → TakesIn start order k rest last e after
+    pub takes_in : MayFollow (joined rest) last e → TakesIn start order k rest last e after
     takes_in = ⊎_elim takes_later takes_earlier

@@ -41,7 +41,7 @@ abbrev pub stands_from : Bool → List Action → Bool
 stands_from known [] = known
 stands_from known (action ∷ more) = stands_from (known_after known action) more
 
--- whether these steps tell that a fragment stands for side s
+-- whether these steps of a core tell that a fragment stands for side s
 abbrev pub known_to_stand : ℕ → List Entry → Bool
 known_to_stand s es = stands_from false (gather one_action s es)
 
@@ -60,19 +60,23 @@ MayComeEarlier known (Took frag) = known ≡ true
 
 -- ---- events
 
--- A step that can be had at one moment with these steps before it: they may all wait for it, or it may come
--- as early as they.
-abbrev pub MayFollow : List Entry → Entry → Type 0
-MayFollow before e = AllMayWait before ⊎ MayComeEarlier (known_to_stand e.side before) e.action
+-- A step of a core that did the past steps, and these before it in its event: they may all wait for it, or it
+-- may come as early as they.
+abbrev pub MayFollow : List Entry → List Entry → Entry → Type 0
+MayFollow past before e = AllMayWait before ⊎ MayComeEarlier (known_to_stand e.side (past ++ before)) e.action
 
 -- these steps, one after another, follow so on those before
-abbrev pub FollowAll : List Entry → List Entry → Type 0
-FollowAll before [] = Unit {0}
-FollowAll before (e ∷ es) = MayFollow before e × FollowAll (before ++ e ∷ []) es
+abbrev pub FollowAll : List Entry → List Entry → List Entry → Type 0
+FollowAll past before [] = Unit {0}
+FollowAll past before (e ∷ es) = MayFollow past before e × FollowAll past (before ++ e ∷ []) es
 
--- Steps of one core that can be had at one moment.
+-- Steps that can be had at one moment, by a core that did the past steps before.
+abbrev pub IsEventAfter : List Entry → List Entry → Type 0
+IsEventAfter past steps = FollowAll past [] steps
+
+-- whatever it did before
 abbrev pub IsEvent : List Entry → Type 0
-IsEvent steps = FollowAll [] steps
+IsEvent steps = IsEventAfter [] steps
 
 -- ---- the moment of an event
 
@@ -84,13 +88,13 @@ AllMayComeEarlier before (e ∷ es) =
 
 -- It is that of one of its steps, a put or any other: those before it wait for it, and those behind it come as
 -- early as it.
-pub record HaveMoment (steps : List Entry) : Type 0 where
+pub record HaveMoment (past steps : List Entry) : Type 0 where
   pub before : List Entry
   pub moment : Entry
   pub behind : List Entry
   pub steps_are : steps ≡ before ++ moment ∷ behind
   pub wait : AllMayWait before
-  pub come : AllMayComeEarlier (before ++ moment ∷ []) behind
+  pub come : AllMayComeEarlier (past ++ (before ++ moment ∷ [])) behind
 
 -- ---- cut into events
 
@@ -99,11 +103,16 @@ abbrev pub joined : List (List Entry) → List Entry
 joined [] = []
 joined (steps ∷ more) = steps ++ joined more
 
+-- each of these is an event, after those before it
+abbrev pub AreEvents : List (List Entry) → Type 0
+AreEvents events = (before behind : List (List Entry)) (steps : List Entry) → events ≡ before ++ steps ∷ behind
+    → IsEventAfter (joined before) steps
+
 -- What each core did of these steps, in its order, cut into events. An event without steps does nothing by
 -- rings, and keeps its place among its core's. Only the first so many cores have events.
 pub record IsCut (cores : ℕ) (log : List Entry) (events : ℕ → List (List Entry)) : Type 0 where
   pub whole : (core : ℕ) → joined (events core) ≡ steps_of core log
-  pub each : (core i : ℕ) (steps : List Entry) → get_elem? (events core) i ≡ some steps → IsEvent steps
+  pub each : (core : ℕ) → AreEvents (events core)
   pub within : (core : ℕ) → cores ≤ core → events core ≡ []
 
 -- ---- an order of events

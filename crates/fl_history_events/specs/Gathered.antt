@@ -7,12 +7,12 @@ use Rattle.fl_history_rings.specs.declared.board.SideEnd.{SideEnd}
 use Rattle.fl_history_rings.specs.Rings.{Way, all_empty}
 use Rattle.fl_history_rings.specs.Cores.{TheCore, InOneOrder}
 use Rattle.fl_history_rings.specs.Laws.{IsAmong}
-use Rattle.fl_history_events.specs.Events.{IsEvent, joined, all_steps, EventsInOneOrder}
+use Rattle.fl_history_events.specs.Events.{joined, AreEvents, all_steps, EventsInOneOrder}
 
 -- What each of these cores did, cut into events. No other core has events.
 pub record AreCut (cores : List TheCore) (events : ℕ → List (List Entry)) : Type 0 where
   pub whole : (i : ℕ) (c : TheCore) → get_elem? cores i ≡ some c → joined (events c.number) ≡ c.steps
-  pub each : (core i : ℕ) (steps : List Entry) → get_elem? (events core) i ≡ some steps → IsEvent steps
+  pub each : (core : ℕ) → AreEvents (events core)
   pub no_more : (core : ℕ) → (IsAmong cores core → ⊥) → events core ≡ []
 
 -- One order of these events, from when the rings were empty. The steps of the events, in that order, are one

@@ -8,7 +8,7 @@ use Rattle.fl_history_rings.specs.declared.board.SideEnd.{SideEnd}
 use Rattle.fl_history_rings.specs.Rings.{Way, Goes, Runs, IsByItsCore}
 use Rattle.fl_history_rings.specs.Cores.{TheCore, InOneOrder}
 use Rattle.fl_history_rings.specs.Laws.{AllAreAmong}
-use Rattle.fl_history_events.specs.Events.{IsEvent, HaveMoment, IsCut, EventsInOneOrder}
+use Rattle.fl_history_events.specs.Events.{IsEvent, IsEventAfter, HaveMoment, IsCut, EventsInOneOrder}
 use Rattle.fl_history_events.specs.Gathered.{AreCut, GatheredInOneOrder}
 
 -- Law: where steps have one order, each by its core, and what each core did is cut into events, the events
@@ -28,9 +28,13 @@ GatheredEventsHaveOneOrder = (ends : List SideEnd) (cores : List TheCore) (order
 
 -- Law: steps that have a moment are an event, and an event has one, unless it has no step.
 pub record EventsHaveMoments : Type 0 where
-  pub event_has : (steps : List Entry) → IsEvent steps → (steps ≡ []) ⊎ HaveMoment steps
-  pub are_event : (steps : List Entry) → HaveMoment steps → IsEvent steps
+  pub event_has : (past steps : List Entry) → IsEventAfter past steps → (steps ≡ []) ⊎ HaveMoment past steps
+  pub are_event : (past steps : List Entry) → HaveMoment past steps → IsEventAfter past steps
 
 -- Law: an event that stopped halfway is an event as far as it came.
 abbrev pub BegunEventsAreEvents : Type 0
-BegunEventsAreEvents = (steps more : List Entry) → IsEvent (steps ++ more) → IsEvent steps
+BegunEventsAreEvents = (past steps more : List Entry) → IsEventAfter past (steps ++ more) → IsEventAfter past steps
+
+-- Law: what is an event whatever its core did before is one after anything.
+abbrev pub EventsStayEvents : Type 0
+EventsStayEvents = (past steps : List Entry) → IsEvent steps → IsEventAfter past steps

@@ -1,7 +1,7 @@
 //! Where steps have one order, events have one: laws, as contracts of functions that do nothing.
 
 ghost use Rattle.fl_history_events.specs.Laws.{EventsHaveOneOrder, GatheredEventsHaveOneOrder};
-ghost use Rattle.fl_history_events.specs.Laws.{EventsHaveMoments, BegunEventsAreEvents};
+ghost use Rattle.fl_history_events.specs.Laws.{EventsHaveMoments, BegunEventsAreEvents, EventsStayEvents};
 
 /// Where steps of many cores have one order, each by the core whose side it is by, and what each core did is
 /// cut into events, the events have one order that leads to the same. In it the steps of each event stand side
@@ -24,4 +24,9 @@ pub fn law_events_have_moments()
 /// An event that stopped halfway is an event as far as it came.
 pub fn law_begun_events_are_events()
     ensures begun { BegunEventsAreEvents }
+{}
+
+/// What is an event whatever its core did before is one after anything that it did.
+pub fn law_events_stay_events()
+    ensures stay { EventsStayEvents }
 {}
