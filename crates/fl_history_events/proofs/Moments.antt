@@ -102,7 +102,7 @@ more_known known (Missed ∷ acts) is = more_known known acts is
 more_known known (Saw f ∷ acts) is = is
 more_known known (Took f ∷ acts) is = is
 
-stands_join : (known : Bool) (xs ys : List Action) → stands_from known (xs ++ ys) ≡ stands_from (stands_from known xs) ys
+pub stands_join : (known : Bool) (xs ys : List Action) → stands_from known (xs ++ ys) ≡ stands_from (stands_from known xs) ys
 stands_join known [] ys = refl
 stands_join known (x ∷ xs) ys = stands_join (known_after known x) xs ys
 
