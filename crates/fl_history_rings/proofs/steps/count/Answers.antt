@@ -22,9 +22,13 @@ pub returns-then-epoch_of-epoch : goal.returns-then-epoch_of-epoch
 returns-then-epoch_of-epoch c =
     let r = c.requires in
     let done = after_no_count _ c.args.top.now.key c.args.seat.now r.seated c.args.place.now r.place c.word.result c.word.ensures 0 c.load-control.result _ c.load-control.ensures.2 (λ e. c.if-epoch_of-epoch.true (c.epoch_of.ensures ∙ (e ∙ sym c.epoch.ensures.epoch))) in
-    record { seated = seated_acting _ c.args.top.now.key c.args.seat.now r.seated _ c.args.place.now.side Missed Nothing c.load-control.ensures.0 done; found = done; again = λ frag was.
-        let stands = again_control _ c.args.top.now.key c.args.seat.now r.seated c.args.place.now r.place c.word.result c.word.ensures 0 c.load-control.result c.load-control.ensures.2.3 frag was in
-        absurd (c.if-epoch_of-epoch.true (c.epoch_of.ensures ∙ (stands.0 ∙ sym c.epoch.ensures.epoch))) }
+    record {
+      seated = seated_acting _ c.args.top.now.key c.args.seat.now r.seated _ c.args.place.now.side Missed Nothing c.load-control.ensures.0 done;
+      found = done;
+      again = λ frag was.
+          let stands = again_control _ c.args.top.now.key c.args.seat.now r.seated c.args.place.now r.place c.word.result c.word.ensures 0 c.load-control.result c.load-control.ensures.2.3 frag was in
+          absurd (c.if-epoch_of-epoch.true (c.epoch_of.ensures ∙ (stands.0 ∙ sym c.epoch.ensures.epoch)));
+    }
 
 pub returns : goal.returns
 returns c =
