@@ -50,10 +50,10 @@ counts_of c a at =
 
 -- free slots, as the code counts them and as they are shown
 pub is_free : (need : ℕ) (c : TheCore) (a : RingSide) → Counts c a → 0 < need → HasFree need a → need ≤ free_of (shared_of c a)
-is_free need c a h some free = let sent = h.sent in let known = h.known in omega (arith, sent, known, free)
+is_free need c a h any free = let sent = h.sent in let known = h.known in omega (arith, sent, known, free)
 
 pub is_short : (need : ℕ) (c : TheCore) (a : RingSide) → Counts c a → LacksFree need a → 0 < need → free_of (shared_of c a) < need
-is_short need c a h lacks some = let sent = h.sent in let known = h.known in omega (arith, sent, known, lacks, some)
+is_short need c a h lacks any = let sent = h.sent in let known = h.known in omega (arith, sent, known, lacks, any)
 
 -- ---- what a call noted
 

@@ -4,7 +4,8 @@ pub mod Lists
 pub mod Calls
 pub mod Puts
 pub mod Takes
-pub mod Lent
+pub mod OneLent
+pub mod Made
 pub mod Prefixes
 pub mod Laws
 pub mod Follow

@@ -22,6 +22,16 @@ use Rattle.fl_history_sides.specs.States.{side_shown}
 use Rattle.fl_history_sides.specs.Noted.{Notes}
 use Rattle.fl_history_sides.proofs.Calls.{shared_of, Counts, counts_of, is_free, is_short, Does, Room, finds_room, wrote, number_is, all_noted, notes_put}
 
+-- the label of a put, by its answer
+abbrev pub put_label : Frag → Result (Unit {0}) PutFault → Look
+put_label frag (Ok done) = placed (bare frag)
+put_label frag (Err refused.Full) = no_room
+put_label frag (Err refused.Spent) = spent
+
+pub on_placed : (P : Look → Type 0) (frag : Frag) (r : Result (Unit {0}) PutFault) → P (put_label frag r) → OnOk r (P (placed (bare frag)))
+on_placed P frag (Ok done) put = put
+on_placed P frag (Err fault) put = tt
+
 module _ (c : TheCore) (a : RingSide) (at : SideFor c a) (t : TheCore) (b : RingSide) where
   shown : TheSide
   shown = shared_of c a
@@ -64,9 +74,9 @@ module _ (c : TheCore) (a : RingSide) (at : SideFor c a) (t : TheCore) (b : Ring
     }
 
   pub placed_so : (frag : Frag) → is_ack_only frag ≡ false → SideFor t b → Puts 2 c a frag b t → SharedPuts (shared_of c a) (placed (bare frag)) (shared_of t b) × Does c a (placed (bare frag)) t b
-  placed_so frag data after puts =
+  placed_so frag plain after puts =
       let w = written_there 2 (omega arith) frag puts after in (
-        (bare-ack frag ∙ data, w.0, (w.1.0, w.1.1, w.1.2, w.1.3 ∙ written_bare w.1.0 frag)),
+        (bare-ack frag ∙ plain, w.0, (w.1.0, w.1.1, w.1.2, w.1.3 ∙ written_bare w.1.0 frag)),
         put_does 2 (omega arith) frag puts (placed (bare frag)) (notes_put 2 c a puts.1 puts.0 (room 2 (omega arith) frag puts) frag t b puts.4 puts.5),
       )
 
@@ -95,13 +105,19 @@ module _ (c : TheCore) (a : RingSide) (at : SideFor c a) (t : TheCore) (b : Ring
   pub spent_so : Stays c a b t × IsSpent a → SharedPuts (shared_of c a) spent (shared_of t b) × Does c a spent t b
   spent_so (stays, is) = ((spent_here is, stays_so stays), stays_does spent refl stays)
 
+  pub puts_so : (r : Result (Unit {0}) PutFault) (frag : Frag) → is_ack_only frag ≡ false → SideFor t b → OnOk r (Puts 2 c a frag b t) → (r ≡ Err refused.Full → FindsNone 2 c a b t)
+      → (r ≡ Err refused.Spent → Stays c a b t × IsSpent a) → (IsSpent a → r ≡ Err refused.Spent) → SharedPuts (shared_of c a) (put_label frag r) (shared_of t b) × Does c a (put_label frag r) t b
+  puts_so (Ok done) frag plain after put full idle first = placed_so frag plain after put
+  puts_so (Err refused.Full) frag plain after put full idle first = full_so (λ e. let no = first e in absurd (cc)) (full refl)
+  puts_so (Err refused.Spent) frag plain after put full idle first = spent_so (idle refl)
+
   -- ---- a tell
 
   told_is : (let n = length (takes_at a.put.side c.steps) in let m = told_at a.put.side c.steps in (n ≡ a.take.cursor.index) × (m ≡ a.told))
   told_is = ((counts_of c a at).got, sym at.told_is)
 
   some_so : TellsSome a → a.put.cursor.size / 2 ≤ unacknowledged_of (shared_of c a)
-  some_so some = let slots = (counts_of c a at).slots in let got = told_is.0 in let tells_so = told_is.1 in omega (arith, slots, got, tells_so, some)
+  some_so enough = let slots = (counts_of c a at).slots in let got = told_is.0 in let tells_so = told_is.1 in omega (arith, slots, got, tells_so, enough)
 
   nothing_so : TellsNothing a → unacknowledged_of (shared_of c a) < a.put.cursor.size / 2
   nothing_so less = let slots = (counts_of c a at).slots in let got = told_is.0 in let tells_so = told_is.1 in omega (arith, slots, got, tells_so, less)

@@ -10,26 +10,26 @@ use Rattle.fl_history_sides.specs.Lent.{TheLent, TheRest, states_of, state_of, r
 
 -- ---- what is there
 
-Holds : {A : Type 0} → Option A → Type 0
+abbrev Holds : {A : Type 0} → Option A → Type 0
 Holds None = ⊥
 Holds (Some x) = Unit {0}
 
 nothing_there : {A : Type 0} (x : A) → (let none : Option A = None in none ≡ Some x) → ⊥
 nothing_there x e = subst (λ o. Holds o) (sym e) tt
 
-value_in : {A : Type 0} → A → Option A → A
+abbrev value_in : {A : Type 0} → A → Option A → A
 value_in d None = d
 value_in d (Some x) = x
 
-IsZero : ℕ → Type 0
+abbrev IsZero : ℕ → Type 0
 IsZero zero = Unit {0}
 IsZero (suc n) = ⊥
 
-rest_in : {A : Type 0} → List A → List A
+abbrev rest_in : {A : Type 0} → List A → List A
 rest_in [] = []
 rest_in (x ∷ xs) = xs
 
-first_in : {A : Type 0} → A → List A → A
+abbrev first_in : {A : Type 0} → A → List A → A
 first_in d [] = d
 first_in d (x ∷ xs) = x
 

@@ -1,14 +1,19 @@
 -- A core with its sides, of which one is lent, as its code holds them.
-use Rattle.std.specs.Prelude.{ℕ, zero, suc, ◌≡◌, ◌<◌, Bool, List, [], ◌∷◌, length, map}
+use Rattle.std.specs.Prelude.{ℕ, zero, suc, ◌≡◌, ◌<◌, ◌%◌, Bool, List, [], ◌∷◌, length, map}
 use Rattle.std.specs.Prelude.{slice_get, slice_index_or, Option, Some, None}
 use Rattle.std.specs.List.{AllByRecursion}
+use Rattle.fl_base.specs.declared.fragment.Frag.{Frag}
+use Rattle.fl_link.specs.declared.sides.Sight.{Sight}
+use Rattle.fl_link.specs.declared.sides.Sight.TheVariants.{Empty}
+use Rattle.fl_link.specs.Cursor.{epoch_at}
 use Rattle.fl_link.specs.Looks.{Look}
+use Rattle.fl_ring.specs.SharedSeats.{sight_of}
 use Rattle.fl_ring.specs.SharedSides.{side_has_room}
 use Rattle.fl_history_rings.specs.declared.board.Entry.{Entry}
 use Rattle.fl_history_rings.specs.declared.place.RingSide.{RingSide}
 use Rattle.fl_history_rings.specs.Cores.{TheCore}
 use Rattle.fl_history_rings.specs.Sides.{SideFor, side_from}
-use Rattle.fl_history_sides.specs.States.{TheHistorySide, side_shown}
+use Rattle.fl_history_sides.specs.States.{TheHistorySide, side_shown, first_shown}
 use Rattle.fl_history_sides.specs.Noted.{HistoryPuts, HistoryTakes, front_of}
 use Rattle.fl_history_sides.specs.Core.{IsDistinct, IsStepBy}
 
@@ -27,6 +32,12 @@ pub record IsLent (core : TheCore) (sides : List RingSide) (at : ℕ) : Type 0 w
   pub mine : AllByRecursion (SideFor core) sides
   pub apart : IsDistinct (numbers_in sides)
   pub did : AllByRecursion (IsStepBy core.number (numbers_in sides)) core.steps
+
+-- these are the core's sides of these numbers, before it did anything
+pub record AreFirst (core : TheCore) (numbers : List ℕ) (sides : List RingSide) : Type 0 where
+  pub mine : AllByRecursion (SideFor core) sides
+  pub numbers_are : numbers_in sides ≡ numbers
+  pub shown : map (side_shown core) sides ≡ map (first_shown core) numbers
 
 -- ---- what callers see
 
@@ -65,6 +76,22 @@ LentTakes s look t = HistoryTakes (state_of s) look (state_of t) × (rest_of s �
 
 abbrev pub lent_has_room : TheLent → Bool
 lent_has_room s = side_has_room (state_of s).side
+
+-- the epoch, and the number of all that was taken, of the fragment that is put next; and how many of its
+-- fragments the side knows to be taken
+abbrev pub lent_epoch : TheLent → ℕ
+lent_epoch s = epoch_at (state_of s).side.size (length (state_of s).side.sent)
+
+abbrev pub lent_told : TheLent → ℕ
+lent_told s = length (state_of s).side.got % 65536
+
+abbrev pub lent_known : TheLent → ℕ
+lent_known s = (state_of s).side.known
+
+-- what a look answers that finds this fragment, or none
+abbrev pub sight_in : Option Frag → Sight
+sight_in None = Empty
+sight_in (Some frag) = sight_of frag
 
 -- ---- where a core may have no sides
 

@@ -1,11 +1,10 @@
 //! A core with its sides, while one of them is lent.
 
-ghost use Rattle.std.specs.Prelude.{◌≡◌, ◌≢◌, ◌%◌, ℕ, Ok, Err, OnOk, false, length};
+ghost use Rattle.std.specs.Prelude.{◌≡◌, ◌≢◌, ℕ, Ok, Err, OnOk, false, length};
 ghost use Rattle.fl_base.specs.declared.fragment.Frag.{Frag};
 ghost use Rattle.fl_base.specs.Control.{is_ack_only, bare};
-ghost use Rattle.fl_link.specs.Cursor.{epoch_at};
-ghost use Rattle.fl_ring.specs.SharedSeats.{sight_of};
-ghost use Rattle.fl_history_sides.specs.Lent.{LentPuts, LentTakes, lent_has_room, ring_side, state_of, states_of};
+ghost use Rattle.fl_history_sides.specs.Lent.{LentPuts, LentTakes, lent_has_room, lent_epoch, lent_told};
+ghost use Rattle.fl_history_sides.specs.Lent.{lent_known, state_of, states_of, sight_in};
 ghost use Rattle.fl_history_sides.specs.Core.{AreSidesOf};
 ghost use Rattle.fl_history_sides.specs.Noted.{front_of};
 
@@ -33,10 +32,14 @@ impl Model for LentSide {
     ghost invariant = { λ s. IsLent s.core s.sides.items s.at };
 }
 
-// What a look that finds this fragment answers.
-fn sight(frag: Frag) -> Sight
-    ensures { result ≡ sight_of frag }
+// What a look answers that finds this fragment, or none.
+#[inline(always)]
+fn sight(found: Option<Frag>) -> Sight
+    ensures { result ≡ sight_in found }
 {
+    let Some(frag) = found else {
+        return Sight::Empty;
+    };
     if frag.is_ack_only() {
         return Sight::Acknowledgement;
     }
@@ -48,11 +51,11 @@ impl PutSide for LentSide {
 
     ghost has_room = { lent_has_room };
 
-    ghost epoch_of = { λ s. epoch_at (ring_side s).put.cursor.size (ring_side s).put.cursor.index };
+    ghost epoch_of = { lent_epoch };
 
-    ghost told_of = { λ s. (ring_side s).take.cursor.index % 65536 };
+    ghost told_of = { lent_told };
 
-    ghost known_of = { λ s. (ring_side s).known };
+    ghost known_of = { lent_known };
 
     #[inline(always)]
     fn room(&self) -> bool {
@@ -87,18 +90,12 @@ impl TakeSide for LentSide {
 
     #[inline(always)]
     fn peek(&mut self) -> Sight {
-        match self.core.look(&mut self.sides[self.at]) {
-            None => Sight::Empty,
-            Some(frag) => sight(frag),
-        }
+        sight(self.core.look(&mut self.sides[self.at]))
     }
 
     #[inline(always)]
     fn take(&mut self) -> Sight {
-        match self.core.take(&mut self.sides[self.at]) {
-            None => Sight::Empty,
-            Some(frag) => sight(frag),
-        }
+        sight(self.core.take(&mut self.sides[self.at]))
     }
 
     #[inline(always)]

@@ -3,10 +3,9 @@
 ghost use Rattle.std.specs.Prelude.{ℕ, ◌≡◌, ◌<◌, [], List, length, map, Some, IfOk, MatchOption};
 ghost use Rattle.std.specs.List.{AllByRecursion};
 ghost use Rattle.fl_history_rings.specs.Cores.{Owns};
-ghost use Rattle.fl_history_rings.specs.Sides.{SideFor};
-ghost use Rattle.fl_history_sides.specs.States.{TheHistorySide, side_shown, first_shown};
+ghost use Rattle.fl_history_sides.specs.States.{TheHistorySide, first_shown};
 ghost use Rattle.fl_history_sides.specs.Noted.{HistoryPuts, HistoryTakes, front_of};
-ghost use Rattle.fl_history_sides.specs.Lent.{TheRest, numbers_in, state_of, rest_of, states_in, Lends};
+ghost use Rattle.fl_history_sides.specs.Lent.{TheRest, AreFirst, state_of, rest_of, states_in, Lends};
 ghost use Rattle.fl_history_sides.specs.Core.{IsDistinct, AreSidesOf, AreOfOneCore};
 
 use crate::core_sides::CoreSides;
@@ -24,9 +23,7 @@ pub struct HistorySides {
 fn sides_of(alloc: Global, core: &RingsCore, numbers: &[usize]) -> Result<Vec<RingSide>, AllocError>
     requires new { core.now.steps ≡ [] }
     requires mine { AllByRecursion (λ n. Owns core.now.sides n core.now.number) numbers.now }
-    ensures sides { IfOk result (λ sides. AllByRecursion (SideFor core.now) sides.items
-        × (numbers_in sides.items ≡ numbers.now)
-        × (map (side_shown core.now) sides.items ≡ map (first_shown core.now) numbers.now)) }
+    ensures sides { IfOk result (λ sides. AreFirst core.now numbers.now sides.items) }
 {
     let mut sides = Vec::new(alloc);
     for k in 0..numbers.len() {
