@@ -1,17 +1,18 @@
 -- A core's sides made, and all of them shown.
 use Rattle.std.proofs.Common.{ℕ, zero, suc, ◌≡◌, ◌<◌, ◌≤◌, ◌+◌, List, [], ◌∷◌, ◌++◌, length, map, take, get_or, slice_get, Option, Some, None, ap, subst, ◌∙◌, sym, refl, arith}
 use Rattle.std.proofs.lemmas.List.{map-append, length-map}
+use Rattle.std.proofs.lemmas.Option.{slice_get-get_or}
 use Rattle.std.proofs.Math.Seq.{take-suc}
 use Rattle.std.specs.List.{AllByRecursion}
 use Rattle.atomic_table.specs.Seated.{TableId}
 use Rattle.fl_history_rings.specs.declared.board.Entry.{Entry}
 use Rattle.fl_history_rings.specs.declared.place.RingSide.{RingSide}
 use Rattle.fl_history_rings.specs.Cores.{TheCore, Owns}
-use Rattle.fl_history_rings.specs.Sides.{SideFor}
+use Rattle.fl_history_rings.specs.Sides.{SideFor, side_from}
 use Rattle.fl_history_rings.proofs.Words.{slots_here}
 use Rattle.fl_history_sides.specs.States.{TheHistorySide, shown_of, side_shown, first_shown, numbers_of}
 use Rattle.fl_history_sides.specs.Core.{IsDistinct, IsStepBy, AreSidesOf, AreOfOneCore}
-use Rattle.fl_history_sides.specs.Lent.{TheLent, IsLent, AreFirst, numbers_in, states_of, states_in}
+use Rattle.fl_history_sides.specs.Lent.{TheLent, IsLent, AreFirst, Lends, lending, numbers_in, states_of, states_in}
 use Rattle.fl_history_sides.proofs.Lists.{all_push, all_there}
 
 -- ---- one side more
@@ -30,9 +31,11 @@ first_more c numbers n sides a h at is = record {
 }
 
 pub first_step : (c : TheCore) (numbers : List ℕ) (k : ℕ) (sides new : List RingSide) (a : RingSide) → k < length numbers → AreFirst c (take k numbers) sides → SideFor c a → a.put.side ≡ get_or numbers k 0 → new ≡ sides ++ a ∷ []
-    → AreFirst c (take (suc k) numbers) new
+    → AreFirst c (take (k + 1) numbers) new
 first_step c numbers k sides new a low h at is more =
-    subst (λ (l : List ℕ). AreFirst c l new) (sym (take-suc numbers k 0 low)) (subst (λ (l : List RingSide). AreFirst c (take k numbers ++ get_or numbers k 0 ∷ []) l) (sym more) (first_more c (take k numbers) (get_or numbers k 0) sides a h at is))
+    let next : suc k ≡ k + 1 = omega arith in
+    subst (λ (m : ℕ). AreFirst c (take m numbers) new) next
+    (subst (λ (l : List ℕ). AreFirst c l new) (sym (take-suc numbers k 0 low)) (subst (λ (l : List RingSide). AreFirst c (take k numbers ++ get_or numbers k 0 ∷ []) l) (sym more) (first_more c (take k numbers) (get_or numbers k 0) sides a h at is)))
 
 pub first_none : (c : TheCore) → AreFirst c [] []
 first_none c = record { mine = tt; numbers_are = refl; shown = refl }
@@ -78,3 +81,13 @@ some_table = record { words = 0; slots = 0; views_name = 0; atom = 0; block = 0;
 
 pub none_shown : AreOfOneCore []
 none_shown = (record { table = some_table; sides = []; number = 0; steps = [] }, record { each = tt; apart = λ i j k at there. absurd (cc); did = tt })
+
+-- ---- one of them is lent
+
+pub lends_so : (o : Option TheLent) (l : TheLent) (n : ℕ) (t : TheLent) → o ≡ Some l → n < length (states_in o) → t ≡ l → Lends o n (lending t n)
+lends_so o l n t is low same =
+    subst (λ (x : Option TheLent). n < length (states_in x) → Lends x n (lending t n)) (sym is)
+    (λ within.
+    let long : length (states_of l) ≡ length l.sides = length-map l.sides (side_shown l.core) in
+    (get_or l.sides n (side_from [] 0 0), slice_get-get_or l.sides n (side_from [] 0 0) (omega (arith, within, long)), ap (λ (x : TheLent). lending x n) same))
+    low

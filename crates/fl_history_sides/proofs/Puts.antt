@@ -100,7 +100,7 @@ module _ (c : TheCore) (a : RingSide) (at : SideFor c a) (t : TheCore) (b : Ring
   spent_here is = (counts_of c a at).sent ∙ is
 
   pub full_so : a.put.cursor.index ≢ 2 ^ 62 → FindsNone 2 c a b t → SharedPuts (shared_of c a) no_room (shared_of t b) × Does c a no_room t b
-  full_so unspent none = ((unspent_so unspent, none_there 2 (omega arith) none), none_does 2 (omega arith) none)
+  full_so unspent none = let n = none_there 2 (omega arith) none in ((unspent_so unspent, n.0, n.1, n.2), none_does 2 (omega arith) none)
 
   pub spent_so : Stays c a b t × IsSpent a → SharedPuts (shared_of c a) spent (shared_of t b) × Does c a spent t b
   spent_so (stays, is) = ((spent_here is, stays_so stays), stays_does spent refl stays)
@@ -139,7 +139,7 @@ module _ (c : TheCore) (a : RingSide) (at : SideFor c a) (t : TheCore) (b : Ring
   full_tell some spent_stays none = by (cases_lt a.put.cursor.index (2 ^ 62))
     where
       by : (a.put.cursor.index < 2 ^ 62) ⊎ (2 ^ 62 ≤ a.put.cursor.index) → SharedTakes (shared_of c a) no_room (shared_of t b) × Does c a no_room t b
-      by (inl less) = ((some_so some, inr (unspent_so (λ e. absurd (omega (arith, less, e))), none_there 1 (omega arith) none)), none_does 1 (omega arith) none)
+      by (inl less) = let n = none_there 1 (omega arith) none in ((some_so some, inr (unspent_so (λ e. absurd (omega (arith, less, e))), n.0, n.1, n.2)), none_does 1 (omega arith) none)
       by (inr more) = let most = at.most in let is : a.put.cursor.index ≡ 2 ^ 62 = omega (arith, most, more) in idle_so some (spent_stays is, is)
 
   pub tells_so : (r : Result Told PutFault) → SideFor t b → (r ≡ Ok answer.Nothing → Stays c a b t × TellsNothing a) → (r ≡ Ok answer.Written → Puts 1 c a acknowledgement b t)
