@@ -1,5 +1,5 @@
 -- What a call of a core by one of its sides is, as that side is shown.
-use Rattle.std.proofs.Common.{ℕ, ◌≡◌, ◌<◌, ◌≤◌, ◌+◌, ◌%◌, ◌^◌, ◌⊎◌, inl, inr, Option, None, [], ◌∷◌, ◌++◌, List, length, ap, subst, ◌∙◌, sym, refl, arith}
+use Rattle.std.proofs.Common.{ℕ, ◌≡◌, ◌<◌, ◌≤◌, ◌+◌, ◌%◌, ◌⊎◌, inl, inr, Option, None, [], ◌∷◌, ◌++◌, List, length, ap, subst, ◌∙◌, sym, refl, arith}
 use Rattle.std.proofs.lemmas.Bool.{cases_lt}
 use mathlib.Core.Option.{some}
 use lib.ListN.{get_elem?}
@@ -20,7 +20,7 @@ use Rattle.fl_history_rings.specs.Cores.{TheCore, noting}
 use Rattle.fl_history_rings.specs.Sides.{SideFor, HasFree, LacksFree, LooksForRoom, FindsRoom, MayStand, counting, having_put, put_by}
 use Rattle.fl_history_rings.proofs.Logs.{same_there}
 use Rattle.fl_history_sides.specs.States.{side_shown, core_until}
-use Rattle.fl_history_sides.specs.Noted.{NotesRoom, NotesPut, Notes, IsNoted, GoesOn, noting_all}
+use Rattle.fl_history_sides.specs.Noted.{NotesFound, NotesFull, NotesPut, Notes, IsNoted, GoesOn, noting_all}
 use Rattle.fl_history_sides.proofs.Until.{goes_on, noting_push}
 use Rattle.fl_history_sides.proofs.Steps.{after_missed, after_found, after_written}
 
@@ -73,7 +73,8 @@ noted c a look t b h =
 
 pub record Room (need : ℕ) (c : TheCore) (a mid : RingSide) (between : TheCore) : Type 0 where
   pub did : List Action
-  pub notes : NotesRoom did
+  pub notes : NotesFull did
+  pub finds : HasFree need mid → NotesFound did
   pub then_is : between ≡ noting_all c a.put.side did
   pub put_is : mid.put ≡ a.put
   pub shown : Looked need (shared_of c a) (shared_of between mid)
@@ -89,7 +90,8 @@ module _ (need : ℕ) (some_need : 0 < need) (c : TheCore) (a : RingSide) (at : 
   by_known : HasFree need a → Room need c a a c
   by_known free = record {
     did = [];
-    notes = inl refl;
+    notes = inl (inl refl);
+    finds = λ _. inl refl;
     then_is = refl;
     put_is = refl;
     shown = record { by_known = λ _. refl; by_look = λ short. let enough = is_free need c a counts some_need free in absurd (omega (arith, short, enough)) };
@@ -103,7 +105,8 @@ module _ (need : ℕ) (some_need : 0 < need) (c : TheCore) (a : RingSide) (at : 
   by_miss : LacksFree need a → (let nothing : Option Frag = None in seen_at a.put.side c.steps ≡ nothing) → Room need c a a (noting c a.put.side Missed)
   by_miss lacks none = record {
     did = Missed ∷ [];
-    notes = inr (inl refl);
+    notes = inr refl;
+    finds = λ enough. absurd (omega (arith, lacks, enough));
     then_is = refl;
     put_is = refl;
     shown = record { by_known = λ enough. let short = is_short need c a counts lacks some_need in absurd (omega (arith, short, enough)); by_look = λ _. inl (none, missed_so) };
@@ -132,7 +135,8 @@ module _ (need : ℕ) (some_need : 0 < need) (c : TheCore) (a : RingSide) (at : 
     by_find : LacksFree need a → Room need c a (counting a control) (noting c a.put.side (Found control))
     by_find lacks = record {
       did = Found control ∷ [];
-      notes = inr (inr (control, refl));
+      notes = inl (inr (control, refl));
+      finds = λ _. inr (control, refl);
       then_is = refl;
       put_is = refl;
       shown = record {
@@ -199,5 +203,5 @@ module _ (need : ℕ) (c : TheCore) (a mid : RingSide) (between : TheCore) (room
   all_noted =
       is ∙ ap (λ (x : TheCore). noting x a.put.side (Put (put_by mid frag))) room.then_is ∙ sym (noting_push c a.put.side room.did (Put (put_by mid frag)))
 
-  pub notes_put : NotesPut (bare frag) (room.did ++ Put (put_by mid frag) ∷ [])
-  notes_put = (room.did, put_by mid frag, room.notes, bare-stamped frag (epoch_at mid.put.cursor.size mid.put.cursor.index) (mid.take.cursor.index % 65536) (omega arith), refl)
+  pub notes_put : HasFree need mid → NotesPut (bare frag) (room.did ++ Put (put_by mid frag) ∷ [])
+  notes_put free = (room.did, put_by mid frag, room.finds free, bare-stamped frag (epoch_at mid.put.cursor.size mid.put.cursor.index) (mid.take.cursor.index % 65536) (omega arith), refl)

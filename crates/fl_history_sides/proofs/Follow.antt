@@ -1,5 +1,5 @@
 -- A core did what one of its sides noted, where the others stayed.
-use Rattle.std.proofs.Common.{ℕ, zero, suc, ◌≡◌, ◌≢◌, ◌<◌, ◌≤◌, ◌+◌, ◌⊎◌, inl, inr, Bool, true, false, Option, List, [], ◌∷◌, ◌++◌, length, map, slice_get, set, Some, ap, subst, ◌∙◌, sym, refl, arith, length-append, append-nil, append_assoc}
+use Rattle.std.proofs.Common.{ℕ, zero, suc, ◌≡◌, ◌≢◌, ◌<◌, ◌≤◌, ◌⊎◌, inl, inr, false, Option, List, [], ◌∷◌, ◌++◌, length, slice_get, set, Some, ap, subst, ◌∙◌, sym, refl, arith, length-append, append-nil, append_assoc}
 use Rattle.std.proofs.lemmas.Bool.{false≢true}
 use mathlib.Core.Logic.{dite}
 use native.Mathlib.Decide.{ℕ_discrete}

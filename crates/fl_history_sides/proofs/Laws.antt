@@ -1,17 +1,14 @@
 -- The laws of a core's sides.
-use Rattle.std.proofs.Common.{ℕ, ◌≡◌, ◌≢◌, ◌<◌, ◌≤◌, ◌⊎◌, inl, inr, false, List, [], ◌∷◌, ◌++◌, length, map, slice_get, set, Some, ap, subst, ◌∙◌, sym, refl, arith, length-append, append-nil, append_assoc}
-use mathlib.Core.Logic.{dite}
-use native.Mathlib.Decide.{ℕ_discrete}
+use Rattle.std.proofs.Common.{ℕ, ◌≡◌, ◌⊎◌, inl, inr, List, [], ◌∷◌, slice_get, Some, ap, subst, ◌∙◌, sym}
 use Rattle.std.specs.List.{AllByRecursion}
-use Rattle.fl_link.specs.Looks.{Look, Looks, LinkStep}
+use Rattle.fl_link.specs.Looks.{LinkStep}
 use Rattle.fl_ring.specs.SharedSides.{SharedPuts, SharedTakes}
-use Rattle.fl_history_rings.specs.declared.board.Action.{Action}
 use Rattle.fl_history_rings.specs.declared.board.Entry.{Entry}
 use Rattle.fl_history_rings.specs.Cores.{TheCore}
-use Rattle.fl_history_sides.specs.States.{TheHistorySide, acts_in, until_last, with_steps, core_until, shown_of, numbers_of}
-use Rattle.fl_history_sides.specs.Noted.{HistoryPuts, HistoryTakes, GoesOn, noting_all}
+use Rattle.fl_history_sides.specs.States.{TheHistorySide, until_last, with_steps, core_until, shown_of, numbers_of}
+use Rattle.fl_history_sides.specs.Noted.{HistoryPuts, HistoryTakes}
 use Rattle.fl_history_sides.specs.Core.{IsStepBy, AreSidesOf}
-use Rattle.fl_history_sides.specs.Laws.{SidesAreShared, OneTellsAll, CoresFollow}
+use Rattle.fl_history_sides.specs.Laws.{SidesAreShared, OneTellsAll}
 use Rattle.fl_history_sides.proofs.Lists.{all_there}
 use Rattle.fl_history_sides.proofs.Until.{until_here}
 use Rattle.fl_history_sides.proofs.Prefixes.{EndsWith, last_of, all_last, numbered, Numbered}

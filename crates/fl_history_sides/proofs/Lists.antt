@@ -1,5 +1,5 @@
 -- Lists of which one place is written.
-use Rattle.std.proofs.Common.{ℕ, zero, suc, ◌≡◌, ◌≢◌, List, [], ◌∷◌, ◌++◌, length, map, slice_get, set, Some, ap, subst, ◌∙◌, sym, refl, arith}
+use Rattle.std.proofs.Common.{ℕ, zero, suc, ◌≡◌, ◌≢◌, List, [], ◌∷◌, ◌++◌, map, slice_get, set, Some, ap, subst, ◌∙◌, sym, refl, arith}
 use Rattle.std.specs.List.{AllByRecursion}
 use Rattle.fl_history_sides.specs.Lent.{without}
 

@@ -1,5 +1,5 @@
 -- A core's sides made, and all of them shown.
-use Rattle.std.proofs.Common.{ℕ, zero, suc, ◌≡◌, ◌<◌, ◌≤◌, ◌+◌, List, [], ◌∷◌, ◌++◌, length, map, take, get_or, slice_get, Option, Some, None, ap, subst, ◌∙◌, sym, refl, arith}
+use Rattle.std.proofs.Common.{ℕ, zero, suc, ◌≡◌, ◌<◌, ◌+◌, List, [], ◌∷◌, ◌++◌, length, map, take, get_or, Option, Some, ap, subst, ◌∙◌, sym, refl, arith}
 use Rattle.std.proofs.lemmas.List.{map-append, length-map}
 use Rattle.std.proofs.lemmas.Option.{slice_get-get_or}
 use Rattle.std.proofs.Math.Seq.{take-suc}
@@ -13,7 +13,7 @@ use Rattle.fl_history_rings.proofs.Words.{slots_here}
 use Rattle.fl_history_sides.specs.States.{TheHistorySide, shown_of, side_shown, first_shown, numbers_of}
 use Rattle.fl_history_sides.specs.Core.{IsDistinct, IsStepBy, AreSidesOf, AreOfOneCore}
 use Rattle.fl_history_sides.specs.Lent.{TheLent, IsLent, AreFirst, Lends, lending, numbers_in, states_of, states_in}
-use Rattle.fl_history_sides.proofs.Lists.{all_push, all_there}
+use Rattle.fl_history_sides.proofs.Lists.{all_push}
 
 -- ---- one side more
 

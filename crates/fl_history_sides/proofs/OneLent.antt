@@ -1,12 +1,11 @@
 -- A core with its sides, once it did something by the one that is lent.
-use Rattle.std.proofs.Common.{ℕ, zero, suc, ◌≡◌, ◌≢◌, ◌<◌, ◌+◌, ◌-◌, ◌%◌, ◌^◌, ◌&&◌, nat_lt, nat_le, List, [], ◌∷◌, ◌++◌, length, map, slice_get, set, get_or, Some, ap, subst, ◌∙◌, sym, refl, length-set}
+use Rattle.std.proofs.Common.{ℕ, zero, suc, ◌≡◌, ◌≢◌, ◌<◌, ◌+◌, ◌-◌, ◌%◌, ◌^◌, ◌&&◌, nat_lt, nat_le, List, [], ◌∷◌, length, map, slice_get, set, get_or, Some, ap, subst, ◌∙◌, sym, refl, length-set}
 use Rattle.std.proofs.lemmas.Option.{slice_get-get_or, get_or_from_slice_get}
 use Rattle.std.specs.List.{AllByRecursion}
 use Rattle.fl_link.specs.Cursor.{epoch_at}
 use Rattle.fl_link.specs.Looks.{Look}
 use Rattle.fl_ring.specs.SharedSides.{TheSide, side_has_room}
 use Rattle.fl_history_rings.specs.declared.board.Action.{Action}
-use Rattle.fl_history_rings.specs.declared.board.Entry.{Entry}
 use Rattle.fl_history_rings.specs.declared.place.RingSide.{RingSide}
 use Rattle.fl_history_rings.specs.Rings.{entry}
 use Rattle.fl_history_rings.specs.Rule.{puts_at}
@@ -15,7 +14,7 @@ use Rattle.fl_history_rings.specs.Sides.{SideFor, LeavesOthers, IsNear, has_room
 use Rattle.fl_history_sides.specs.States.{TheHistorySide, side_shown}
 use Rattle.fl_history_sides.specs.Noted.{IsNoted, noting_all}
 use Rattle.fl_history_sides.specs.Core.{IsDistinct, IsStepBy}
-use Rattle.fl_history_sides.specs.Lent.{TheLent, TheRest, IsLent, numbers_in, ring_side, state_of, states_of, rest_of, without, lent_has_room, lent_epoch, lent_told, lent_known}
+use Rattle.fl_history_sides.specs.Lent.{TheLent, TheRest, IsLent, numbers_in, state_of, rest_of, without, lent_has_room, lent_epoch, lent_told, lent_known}
 use Rattle.fl_history_sides.proofs.Lists.{all_push, all_there, all_set, map_set, others_alike}
 use Rattle.fl_history_sides.proofs.Steps.{shown_still}
 use Rattle.fl_history_sides.proofs.Calls.{shared_of, Counts, counts_of, Does, noted}

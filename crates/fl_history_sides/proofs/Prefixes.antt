@@ -1,5 +1,5 @@
 -- What all sides of a core tell of its steps.
-use Rattle.std.proofs.Common.{ℕ, zero, suc, ◌≡◌, ◌≢◌, ◌<◌, ◌≤◌, ◌+◌, ◌==◌, ◌||◌, ◌⊎◌, inl, inr, Bool, true, false, if◌then◌else◌, List, [], ◌∷◌, ◌++◌, length, map, slice_get, Some, ap, subst, ◌∙◌, sym, refl, arith, length-append, append-nil, append_assoc}
+use Rattle.std.proofs.Common.{ℕ, zero, suc, ◌≡◌, ◌≢◌, ◌<◌, ◌≤◌, ◌+◌, ◌==◌, ◌||◌, ◌⊎◌, inl, inr, Bool, true, false, List, [], ◌∷◌, ◌++◌, length, slice_get, Some, ap, ◌∙◌, sym, refl, arith, length-append, append-nil, append_assoc}
 use Rattle.std.proofs.lemmas.Bool.{false≢true}
 use Rattle.std.specs.List.{AllByRecursion}
 use Rattle.fl_history_rings.specs.declared.board.Action.{Action}
@@ -7,10 +7,9 @@ use Rattle.fl_history_rings.specs.declared.board.Entry.{Entry}
 use Rattle.fl_history_rings.specs.Rings.{entry}
 use Rattle.fl_history_rings.specs.Cores.{TheCore, noting}
 use Rattle.fl_history_rings.proofs.Logs.{then_is, else_is}
-use Rattle.fl_history_sides.specs.States.{TheHistorySide, acts_in, until_last, with_steps, core_until, shown_of, numbers_of}
+use Rattle.fl_history_sides.specs.States.{TheHistorySide, acts_in, until_last, numbers_of}
 use Rattle.fl_history_sides.specs.Noted.{noting_all}
-use Rattle.fl_history_sides.specs.Core.{IsStepBy, AreSidesOf}
-use Rattle.fl_history_sides.proofs.Until.{until_here, until_else, since_of}
+use Rattle.fl_history_sides.proofs.Until.{until_else, since_of}
 
 -- ---- lists
 

@@ -1,5 +1,5 @@
 -- Puts and tells of a side, as it is shown.
-use Rattle.std.proofs.Common.{ℕ, ◌≡◌, ◌≢◌, ◌<◌, ◌≤◌, ◌+◌, ◌-◌, ◌/◌, ◌^◌, ◌⊎◌, inl, inr, Result, Ok, Err, OnOk, false, length, ap, ◌∙◌, sym, refl, arith, [], ◌++◌, ◌∷◌}
+use Rattle.std.proofs.Common.{ℕ, ◌≡◌, ◌≢◌, ◌<◌, ◌≤◌, ◌+◌, ◌/◌, ◌^◌, ◌⊎◌, inl, inr, Result, Ok, Err, OnOk, false, length, ap, ◌∙◌, sym, refl, arith, [], ◌++◌, ◌∷◌}
 use Rattle.std.proofs.lemmas.Bool.{cases_lt}
 use Rattle.fl_base.specs.declared.fragment.Frag.{Frag}
 use Rattle.fl_base.specs.Control.{is_ack_only, bare}
@@ -17,10 +17,9 @@ use Rattle.fl_history_rings.specs.declared.place.RingSide.{RingSide}
 use Rattle.fl_history_rings.specs.declared.place.SlotPlace.{SlotPlace}
 use Rattle.fl_history_rings.specs.Rule.{puts_at, takes_at, told_at}
 use Rattle.fl_history_rings.specs.Cores.{TheCore}
-use Rattle.fl_history_rings.specs.Sides.{SideFor, LacksFree, FindsNone, Puts, Stays, IsSpent, TellsNothing, TellsSome, put_by}
-use Rattle.fl_history_sides.specs.States.{side_shown}
+use Rattle.fl_history_rings.specs.Sides.{SideFor, FindsNone, Puts, Stays, IsSpent, TellsNothing, TellsSome, put_by}
 use Rattle.fl_history_sides.specs.Noted.{Notes}
-use Rattle.fl_history_sides.proofs.Calls.{shared_of, Counts, counts_of, is_free, is_short, Does, Room, finds_room, wrote, number_is, all_noted, notes_put}
+use Rattle.fl_history_sides.proofs.Calls.{shared_of, counts_of, is_free, is_short, Does, Room, finds_room, wrote, number_is, all_noted, notes_put}
 
 -- the label of a put, by its answer
 abbrev pub put_label : Frag → Result (Unit {0}) PutFault → Look
@@ -77,7 +76,7 @@ module _ (c : TheCore) (a : RingSide) (at : SideFor c a) (t : TheCore) (b : Ring
   placed_so frag plain after puts =
       let w = written_there 2 (omega arith) frag puts after in (
         (bare-ack frag ∙ plain, w.0, (w.1.0, w.1.1, w.1.2, w.1.3 ∙ written_bare w.1.0 frag)),
-        put_does 2 (omega arith) frag puts (placed (bare frag)) (notes_put 2 c a puts.1 puts.0 (room 2 (omega arith) frag puts) frag t b puts.4 puts.5),
+        put_does 2 (omega arith) frag puts (placed (bare frag)) (notes_put 2 c a puts.1 puts.0 (room 2 (omega arith) frag puts) frag t b puts.4 puts.5 puts.3),
       )
 
   -- no room was found
@@ -129,11 +128,11 @@ module _ (c : TheCore) (a : RingSide) (at : SideFor c a) (t : TheCore) (b : Ring
   wrote_so after some puts =
       let w = written_there 1 (omega arith) acknowledgement puts after in (
         (some_so some, w.0, w.1),
-        put_does 1 (omega arith) acknowledgement puts told (notes_put 1 c a puts.1 puts.0 (room 1 (omega arith) acknowledgement puts) acknowledgement t b puts.4 puts.5),
+        put_does 1 (omega arith) acknowledgement puts told (notes_put 1 c a puts.1 puts.0 (room 1 (omega arith) acknowledgement puts) acknowledgement t b puts.4 puts.5 puts.3),
       )
 
   idle_so : TellsSome a → Stays c a b t × IsSpent a → SharedTakes (shared_of c a) no_room (shared_of t b) × Does c a no_room t b
-  idle_so some (stays, is) = ((some_so some, inl (spent_here is, stays_so stays)), stays_does no_room (inl refl) stays)
+  idle_so some (stays, is) = ((some_so some, inl (spent_here is, stays_so stays)), stays_does no_room (inl (inl refl)) stays)
 
   full_tell : TellsSome a → (IsSpent a → Stays c a b t) → FindsNone 1 c a b t → SharedTakes (shared_of c a) no_room (shared_of t b) × Does c a no_room t b
   full_tell some spent_stays none = by (cases_lt a.put.cursor.index (2 ^ 62))

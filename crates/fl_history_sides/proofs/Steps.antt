@@ -1,5 +1,5 @@
 -- A side once its core did more.
-use Rattle.std.proofs.Common.{Option, Some, None, ℕ, ◌≡◌, ◌≢◌, ◌+◌, ◌%◌, List, [], ◌∷◌, ◌++◌, length, ap, ◌∙◌, sym, refl}
+use Rattle.std.proofs.Common.{Option, Some, None, ℕ, ◌≡◌, ◌≢◌, ◌%◌, List, [], ◌∷◌, ◌++◌, length, ap, ◌∙◌, refl}
 use Rattle.std.proofs.lemmas.List.{length_push}
 use Rattle.atomic_table.specs.Seated.{TableId}
 use Rattle.fl_base.specs.declared.fragment.Frag.{Frag}
@@ -11,11 +11,11 @@ use Rattle.fl_history_rings.specs.declared.board.Action.{Action}
 use Rattle.fl_history_rings.specs.declared.board.Action.TheVariants.{Put, Found, Missed, Saw, Took}
 use Rattle.fl_history_rings.specs.declared.board.Entry.{Entry}
 use Rattle.fl_history_rings.specs.Rings.{entry}
-use Rattle.fl_history_rings.specs.Rule.{gather, known_from, one_put, one_took, one_found, puts_at, takes_at, known_at, told_at, seen_at}
+use Rattle.fl_history_rings.specs.Rule.{gather, known_from, one_put, one_took, one_found, puts_at, takes_at, known_at}
 use Rattle.fl_history_rings.specs.Cores.{TheCore, noting}
 use Rattle.fl_history_rings.proofs.Logs.{gather_here, gather_else, not_gathered, known_push}
 use Rattle.fl_history_rings.proofs.Told.{told_put, told_else, told_still, seen_here, seen_else}
-use Rattle.fl_history_sides.specs.States.{TheHistorySide, holder_of, one_load, one_miss, side_after, shown_of, core_until, with_steps, until_last}
+use Rattle.fl_history_sides.specs.States.{TheHistorySide, holder_of, one_load, one_miss, side_after, shown_of, core_until, with_steps}
 use Rattle.fl_history_sides.specs.Noted.{noting_all}
 use Rattle.fl_history_sides.proofs.Until.{until_else}
 

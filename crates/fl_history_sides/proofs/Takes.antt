@@ -1,23 +1,20 @@
 -- Looks and takes of a side, as it is shown.
 use Rattle.std.proofs.Common.{ℕ, ◌≡◌, ◌≢◌, ◌≤◌, Bool, true, false, if◌then◌else◌, Option, Some, None, MatchOption, ◌∷◌, [], length, ap, subst, ◌∙◌, sym, refl}
 use Rattle.fl_base.specs.declared.fragment.Frag.{Frag}
-use Rattle.fl_base.specs.Control.{told_of, is_ack_only, bare}
-use Rattle.fl_link.specs.declared.sides.Sight.{Sight}
-use Rattle.fl_link.specs.declared.sides.Sight.TheVariants.{Data, Acknowledgement, Empty}
+use Rattle.fl_base.specs.Control.{is_ack_only, bare}
+use Rattle.fl_link.specs.declared.sides.Sight.TheVariants.{Data, Acknowledgement}
 use Rattle.fl_link.specs.Looks.{Look, saw, saw_ack, found, found_ack, missed, peeked, taken}
 use Rattle.fl_link.specs.Queue.{look_at}
-use Rattle.fl_ring.specs.Counts.{count_from}
-use Rattle.fl_ring.specs.SharedSeats.{front_seen, sight_of}
-use Rattle.fl_ring.specs.SharedSides.{TheSide, SharedTakes, side_missed, side_seen, side_taken, KnowsSent, SideMayCome, SideSees, SideGets}
+use Rattle.fl_ring.specs.SharedSeats.{front_seen}
+use Rattle.fl_ring.specs.SharedSides.{TheSide, SharedTakes, KnowsSent, SideMayCome, SideSees, SideGets}
 use Rattle.fl_history_rings.specs.declared.board.Action.TheVariants.{Found, Missed, Saw, Took}
 use Rattle.fl_history_rings.specs.declared.place.RingSide.{RingSide}
-use Rattle.fl_history_rings.specs.Rule.{seen_at, puts_at, known_at}
-use Rattle.fl_history_rings.specs.Cores.{TheCore, noting}
+use Rattle.fl_history_rings.specs.Rule.{seen_at, puts_at}
+use Rattle.fl_history_rings.specs.Cores.{TheCore}
 use Rattle.fl_history_rings.specs.Sides.{SideFor, Misses, Sees, Takes, counting, having_taken}
-use Rattle.fl_history_sides.specs.Noted.{NotesSeen, NotesTaken}
 use Rattle.fl_history_sides.specs.Lent.{sight_in}
 use Rattle.fl_history_sides.proofs.Steps.{after_missed, after_seen, after_taken}
-use Rattle.fl_history_sides.proofs.Calls.{shared_of, Counts, counts_of, Does}
+use Rattle.fl_history_sides.proofs.Calls.{shared_of, counts_of, Does}
 
 -- where nothing is found nothing was seen, and what is found is what was seen
 unseen : (seen : Option Frag) → ((frag : Frag) → seen ≡ Some frag → (let none : Option Frag = None in none ≡ Some frag)) → (let nothing : Option Frag = None in seen ≡ nothing)

@@ -2,10 +2,9 @@
 use Rattle.std.specs.Prelude.{ℕ, zero, suc, pred, ◌≡◌, List, [], ◌∷◌, length, map, slice_get, slice_set, slice_index_or}
 use Rattle.std.specs.Prelude.{Option, Some, None}
 use Rattle.std.proofs.Common.{refl, sym, ap, subst, ◌∙◌}
-use Rattle.std.proofs.lemmas.List.{length-map}
 use Rattle.fl_history_rings.specs.declared.place.RingSide.{RingSide}
 use Rattle.fl_history_rings.specs.Sides.{side_from}
-use Rattle.fl_history_sides.specs.States.{TheHistorySide, side_shown}
+use Rattle.fl_history_sides.specs.States.{side_shown}
 use Rattle.fl_history_sides.specs.Lent.{TheLent, TheRest, states_of, state_of, rest_of, states_in, lending, Lends, without}
 
 -- ---- what is there

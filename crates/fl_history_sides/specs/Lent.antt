@@ -9,12 +9,11 @@ use Rattle.fl_link.specs.Cursor.{epoch_at}
 use Rattle.fl_link.specs.Looks.{Look}
 use Rattle.fl_ring.specs.SharedSeats.{sight_of}
 use Rattle.fl_ring.specs.SharedSides.{side_has_room}
-use Rattle.fl_history_rings.specs.declared.board.Entry.{Entry}
 use Rattle.fl_history_rings.specs.declared.place.RingSide.{RingSide}
 use Rattle.fl_history_rings.specs.Cores.{TheCore}
 use Rattle.fl_history_rings.specs.Sides.{SideFor, side_from}
 use Rattle.fl_history_sides.specs.States.{TheHistorySide, side_shown, first_shown}
-use Rattle.fl_history_sides.specs.Noted.{HistoryPuts, HistoryTakes, front_of}
+use Rattle.fl_history_sides.specs.Noted.{HistoryPuts, HistoryTakes}
 use Rattle.fl_history_sides.specs.Core.{IsDistinct, IsStepBy}
 
 pub record TheLent : Type 0 where

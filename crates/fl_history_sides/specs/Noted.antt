@@ -15,14 +15,18 @@ use Rattle.fl_history_sides.specs.States.{TheHistorySide, acts_in, with_steps}
 
 -- ---- which actions are noted
 
--- by a look for room, or where there was none: that nothing stands first, or a control word
-abbrev pub NotesRoom : List Action → Type 0
-NotesRoom did = (did ≡ []) ⊎ ((did ≡ Missed ∷ []) ⊎ ((control : ℕ) × (did ≡ Found control ∷ [])))
+-- where room was found: nothing, or by a look for it a control word
+abbrev pub NotesFound : List Action → Type 0
+NotesFound did = (did ≡ []) ⊎ ((control : ℕ) × (did ≡ Found control ∷ []))
+
+-- where none was found: the same, or that nothing stands first
+abbrev pub NotesFull : List Action → Type 0
+NotesFull did = NotesFound did ⊎ (did ≡ Missed ∷ [])
 
 -- by a put of a fragment that is this one but for its epoch and the count that it tells
 abbrev pub NotesPut : Frag → List Action → Type 0
 NotesPut frag did = (room : List Action) × (f : Frag)
-    × NotesRoom room × (bare f ≡ frag) × (did ≡ room ++ Put f ∷ [])
+    × NotesFound room × (bare f ≡ frag) × (did ≡ room ++ Put f ∷ [])
 
 -- by a look, and by a take, where a look at the fragment has this label
 abbrev pub NotesSeen : Look → List Action → Type 0
@@ -34,7 +38,7 @@ NotesTaken look did = (f : Frag) × (look_at f ≡ look) × (did ≡ Found f.con
 -- by one step of a side, by what it came to
 abbrev pub Notes : Look → List Action → Type 0
 Notes (placed frag) did = NotesPut frag did
-Notes no_room did = NotesRoom did
+Notes no_room did = NotesFull did
 Notes spent did = did ≡ []
 Notes (saw frag) did = NotesSeen (saw frag) did
 Notes saw_ack did = NotesSeen saw_ack did

@@ -9,7 +9,7 @@ use Rattle.fl_history_rings.specs.declared.board.Action.TheVariants.{Put, Found,
 use Rattle.fl_history_rings.specs.declared.board.Entry.{Entry}
 use Rattle.fl_history_rings.specs.declared.place.RingSide.{RingSide}
 use Rattle.fl_history_rings.specs.Rule.{gather, puts_at, takes_at, known_at, told_at, seen_at, slots_of}
-use Rattle.fl_history_rings.specs.Cores.{TheCore, noting}
+use Rattle.fl_history_rings.specs.Cores.{TheCore}
 
 -- ---- one side, by what its core did
 

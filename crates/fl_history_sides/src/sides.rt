@@ -8,8 +8,8 @@ ghost use Rattle.fl_history_sides.specs.Noted.{HistoryPuts, HistoryTakes, front_
 ghost use Rattle.fl_history_sides.specs.Lent.{TheRest, AreFirst, state_of, rest_of, states_in, Lends};
 ghost use Rattle.fl_history_sides.specs.Core.{IsDistinct, AreSidesOf, AreOfOneCore};
 
-use crate::core_sides::CoreSides;
 use crate::lent::LentSide;
+use fl_core_run::CoreSides;
 use fl_history_rings::{RingSide, RingsCore};
 use std::alloc::{AllocError, Global};
 

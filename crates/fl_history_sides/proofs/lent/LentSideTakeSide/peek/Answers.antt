@@ -1,6 +1,6 @@
 use Rattle.std.proofs.Common.{slice_set, subst, sym, ap, ◌∙◌}
 use Rattle.fl_link.specs.declared.sides.Sight.{Sight}
-use Rattle.fl_link.specs.Looks.{saw, saw_ack, peeked, taken}
+use Rattle.fl_link.specs.Looks.{saw, saw_ack, peeked}
 use Rattle.fl_ring.specs.SharedSeats.{front_seen}
 use Rattle.fl_ring.specs.SharedSides.{SharedTakes}
 use Rattle.fl_ring.proofs.Sighted.{saw_some, ack_some}
