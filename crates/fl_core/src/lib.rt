@@ -75,7 +75,7 @@ mod wiring;
 
 pub use answer::{LinkFront, MonitorAnswer, MonitorWrite};
 pub use board_fault::BoardFault;
-pub use core_job::{CoreJob, OpenRequest};
+pub use core_job::{BoxedRequest, CoreJob, OpenRequest};
 pub use fault::{LinkReceiveFault, OpenFault};
 pub use hearing::OfferedService;
 pub use joining::{EndAtDispatcher, EndPlaces, LocalBinding};

@@ -1,10 +1,11 @@
 -- What a look found stands first at its side afterwards.
-use Rattle.std.proofs.Common.{◌≡◌, refl, sym, ap, ◌∙◌, subst, ℕ, ◌<◌, ◌≢◌, length, slice_get, slice_set, slice_index_or, Some, Result, Ok, Err}
+use Rattle.std.proofs.Common.{◌≡◌, refl, sym, ap, ◌∙◌, subst, ℕ, ◌<◌, ◌≢◌, List, length, slice_get, slice_set, Some, Result, Ok, Err}
 use Rattle.std.proofs.lemmas.List.{length-set}
 use Rattle.fl_base.specs.declared.fragment.Frag.{Frag}
 use Rattle.fl_base.specs.declared.identity.LinkId.{LinkId}
 use Rattle.fl_base.specs.Control.{bare, with_circuit}
 use Rattle.fl_link.specs.Looks.{Look, placed, found, saw}
+use Rattle.fl_link.specs.declared.fault.PutFault.{PutFault}
 use Rattle.fl_hop.specs.declared.forward.ForwardOutcome.TheVariants.{Moved}
 use Rattle.fl_core.proofs.BoardPlaces.{set_here, set_elsewhere}
 use Rattle.fl_core.specs.declared.answer.LinkFront.{LinkFront}
@@ -12,8 +13,8 @@ use Rattle.fl_core.specs.declared.answer.LinkFront.TheVariants.{Nothing, Acknowl
 use Rattle.fl_core.specs.declared.fault.LinkReceiveFault.{LinkReceiveFault}
 use Rattle.fl_core_run.specs.Run.{SideRelations, TheRun}
 use Rattle.fl_core_run.specs.LogEntries.{PutsAt, HopOfFrag, PassesOn, looked, Does}
-use Rattle.fl_core_run.specs.Inside.{Fronts, Foresees}
-use Rattle.fl_core_run.proofs.Sides.{stands}
+use Rattle.fl_core_run.specs.Inside.{StandsFirst, Fronts, Foresees, OverSide, put_label}
+use Rattle.fl_core_run.proofs.Sides.{on_side}
 
 some_is : {X : Type 0} (x y : X) → Some x ≡ Some y → x ≡ y
 some_is x y same = cc
@@ -35,30 +36,27 @@ foresees w n l (Ok (Arrival frag e)) s t h =
     (stands_first w n frag s t h.before h.after h.before_is h.rest h.event.0.finds.1, h.event.0.finds.4)
 foresees w n l (Err fault) s t h = tt
 
--- what stands first at one side stands there while another puts
-stands_elsewhere : {S : Type 0} (w : SideRelations S) (n m : ℕ) (look : Look) (frag : Frag) (s t : TheRun S) → n ≢ m → PutsAt w m look s t → Fronts w n frag s → Fronts w n frag t
-stands_elsewhere {S} w n m look frag s t two puts seen p there =
-    seen p (sym (ap (λ (x : TheRun S). slice_get x.rings n) puts.rest ∙ set_elsewhere s.rings m n puts.after two) ∙ there)
+-- what stands first at one side stands there while something is done over another
+pub stands_elsewhere : {S : Type 0} (front : S → Look) (n m : ℕ) (frag : Frag) (ss ts : List S) (Event : S → S → Type 0) → n ≢ m → OverSide m ss Event ts
+    → StandsFirst front n frag ss → StandsFirst front n frag ts
+stands_elsewhere {S} front n m frag ss ts Event two h seen p there =
+    seen p (sym (ap (λ (xs : List S). slice_get xs n) h.rest ∙ set_elsewhere ss m n h.after two) ∙ there)
+
+-- there are as many sides as before
+pub as_many : {S : Type 0} (n m : ℕ) (ss ts : List S) (Event : S → S → Type 0) → OverSide m ss Event ts → n < length ss → n < length ts
+as_many {S} n m ss ts Event h below = subst (λ (k : ℕ). n < k) (sym (ap (λ (xs : List S). length xs) h.rest ∙ length-set ss m h.after)) below
+
+-- a put of a fragment that was to pass on, by what it came to
+pub put_on : {S : Type 0} (w : SideRelations S) (s : TheRun S) (n : ℕ) (sent frag : Frag) (c : ℕ) (ts : List S) (result one : Result (Unit {0}) PutFault)
+    → sent ≡ with_circuit c frag → result ≡ one → OverSide n s.rings (λ p q. w.puts p (put_label sent result) q) ts
+    → PutsAt w n (put_label (with_circuit c frag) one) s (record s { rings = ts })
+put_on {S} w s n sent frag c ts result one same is h =
+    on_side s n ts (λ p q. w.puts p (put_label (with_circuit c frag) one) q)
+    (subst (λ (f : Frag). OverSide n s.rings (λ p q. w.puts p (put_label f one) q) ts) same
+    (subst (λ (r : Result (Unit {0}) PutFault). OverSide n s.rings (λ p q. w.puts p (put_label sent r) q) ts) is h))
 
 -- a fragment that stands first at one side, and was put at another, is taken
-pub passed_on : {S : Type 0} (w : SideRelations S) (s : TheRun S) (x : HopOfFrag) (sent : Frag) (p q p2 q2 : S) (taken : Look) → x.from < length s.rings → x.onto < length s.rings
-    → x.from ≢ x.onto → p ≡ slice_index_or s.rings x.onto p → p2 ≡ slice_index_or (slice_set s.rings x.onto q) x.from p2 → sent ≡ with_circuit x.circuit.0 x.frag
-    → w.puts p (placed (bare sent)) q → Fronts w x.from x.frag s → ((f : Frag) → w.front p2 ≡ saw f → taken ≡ found f) → w.takes p2 taken q2
-    → PassesOn w x Moved s (record s { rings = slice_set (slice_set s.rings x.onto q) x.from q2 })
-passed_on {S} w s x sent p q p2 q2 taken from onto two read read2 same put seen finds takes =
-    let mid : TheRun S = record s { rings = slice_set s.rings x.onto q } in
-    let puts : PutsAt w x.onto (placed (bare (with_circuit x.circuit.0 x.frag))) s mid = record {
-      before = p;
-      before_is = stands s x.onto p onto read;
-      after = q;
-      event = (subst (λ (f : Frag). w.puts p (placed (bare f)) q) same put, refl);
-      rest = refl;
-    } in
-    let there : slice_get mid.rings x.from ≡ Some p2 =
-    stands mid x.from p2 (subst (λ (n : ℕ). x.from < n) (sym (length-set s.rings x.onto q)) from) read2 in
-    let first : taken ≡ found (bare x.frag) =
-    finds (bare x.frag) (stands_elsewhere w x.from x.onto (placed (bare (with_circuit x.circuit.0 x.frag))) x.frag s mid two puts seen p2 there) in (
-      mid,
-      puts,
-      record { before = p2; before_is = there; after = q2; event = (subst (λ (look : Look). w.takes p2 look q2) first takes, refl); rest = refl },
-    )
+pub passed_on : {S : Type 0} (w : SideRelations S) (s : TheRun S) (x : HopOfFrag) (ts us : List S)
+    → PutsAt w x.onto (placed (bare (with_circuit x.circuit.0 x.frag))) s (record s { rings = ts })
+    → OverSide x.from ts (λ p q. w.takes p (found (bare x.frag)) q) us → PassesOn w x Moved s (record s { rings = us })
+passed_on w s x ts us puts takes = (record s { rings = ts }, puts, on_side (record s { rings = ts }) x.from us (λ p q. w.takes p (found (bare x.frag)) q) takes)

@@ -1,3 +1,4 @@
+pub mod States
 pub mod LinkSides
 pub mod Foreseen
 pub mod Inlets

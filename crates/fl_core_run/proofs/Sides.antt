@@ -1,6 +1,5 @@
 -- An event over a side of a ring, which is written back.
-use Rattle.std.proofs.Common.{◌≡◌, refl, ap, ◌∙◌, ℕ, ◌<◌, true, List, length, slice_get, slice_set, slice_index_or, Some, Result, Ok, Err}
-use Rattle.std.proofs.lemmas.Option.{slice_get_read}
+use Rattle.std.proofs.Common.{◌≡◌, refl, ap, ◌∙◌, ℕ, true, List, slice_set, Result, Ok, Err}
 use Rattle.fl_base.specs.declared.fragment.Frag.{Frag}
 use Rattle.fl_base.specs.declared.identity.LinkId.{LinkId}
 use Rattle.std.specs.Prelude.{OnOk, IfErr}
@@ -8,7 +7,7 @@ use Rattle.fl_base.specs.Control.{bare}
 use Rattle.fl_link.specs.Looks.{Look, placed, no_room, spent}
 use Rattle.fl_link.specs.declared.fault.PutFault.{PutFault}
 use Rattle.fl_link.specs.declared.fault.PutFault.TheVariants.{Full, Spent}
-use Rattle.fl_core_run.specs.Inside.{put_label}
+use Rattle.fl_core_run.specs.Inside.{OverSide, put_label}
 use Rattle.fl_core.proofs.BoardPlaces.{set_same}
 use Rattle.fl_core.specs.declared.answer.MonitorAnswer.{MonitorAnswer}
 use Rattle.fl_core.specs.declared.fault.LinkReceiveFault.{LinkReceiveFault}
@@ -19,18 +18,33 @@ use Rattle.fl_core_run.specs.Run.{TheRun}
 use Rattle.fl_core_run.specs.LogEntries.{OnRing}
 use Rattle.fl_core_run.specs.Steps.{lacks_to_hear}
 
-module _ {S : Type 0} (s : TheRun S) (n : ℕ) (p : S) (side : n < length s.rings) (read : p ≡ slice_index_or s.rings n p) where
-  pub stands : slice_get s.rings n ≡ Some p
-  stands = slice_get_read s.rings (length s.rings) n p refl side read
+module _ {S : Type 0} (s : TheRun S) (n : ℕ) (ts : List S) where
+  pub on_ring : (Event : TheCore → S → TheCore → S → Type 0) (k : TheCore) → OverSide n s.rings (λ p q. Event s.core p k q) ts
+      → OnRing n s Event (record s { core = k; rings = ts })
+  on_ring Event k h = record {
+    before = h.before;
+    before_is = h.before_is;
+    after = h.after;
+    event = h.event;
+    rest = ap (λ (xs : List S). record s { core = k; rings = xs }) h.rest;
+  }
 
-  pub on_ring : (Event : TheCore → S → TheCore → S → Type 0) (k : TheCore) (q : S) → Event s.core p k q → OnRing n s Event (record s { core = k; rings = slice_set s.rings n q })
-  on_ring Event k q event = record { before = p; before_is = stands; after = q; event = event; rest = refl }
+  -- over the side alone
+  pub on_side : (Event : S → S → Type 0) → OverSide n s.rings Event ts → OnRing n s (λ k p k2 q. Event p q × (k2 ≡ k)) (record s { rings = ts })
+  on_side Event h = record {
+    before = h.before;
+    before_is = h.before_is;
+    after = h.after;
+    event = (h.event, refl);
+    rest = ap (λ (xs : List S). record s { rings = xs }) h.rest;
+  }
 
   -- where nothing changed
-  pub all_left : (k : TheCore) (q : S) → (k ≡ s.core) × (q ≡ p) → record s { core = k; rings = slice_set s.rings n q } ≡ s
-  all_left k q same =
-      let rings : slice_set s.rings n q ≡ s.rings = ap (λ (x : S). slice_set s.rings n x) same.1 ∙ set_same s.rings n p stands in
-      ap (λ (c : TheCore). record s { core = c; rings = slice_set s.rings n q }) same.0 ∙ ap (λ (xs : List S). record s { rings = xs }) rings
+  pub all_left : (Event : S → S → Type 0) (h : OverSide n s.rings Event ts) (k : TheCore) → (k ≡ s.core) × (h.after ≡ h.before)
+      → record s { core = k; rings = ts } ≡ s
+  all_left Event h k same =
+      let rings : ts ≡ s.rings = h.rest ∙ ap (λ (x : S). slice_set s.rings n x) same.1 ∙ set_same s.rings n h.before h.before_is in
+      ap (λ (c : TheCore). record s { core = c; rings = ts }) same.0 ∙ ap (λ (xs : List S). record s { rings = xs }) rings
 
 -- a message for which memory is wanted is left, and the core as it was
 pub unheard : {S : Type 0} (takes : S → Look → S → Type 0) (o : Offers) (l : LinkId) (frag : Frag) (k k2 : TheCore) (p q : S) (answer : Result MonitorAnswer LinkReceiveFault)

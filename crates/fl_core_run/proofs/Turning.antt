@@ -1,5 +1,5 @@
 -- A turn over the side that its end takes from.
-use Rattle.std.proofs.Common.{◌≡◌, refl, sym, ap, subst, ℕ, ◌<◌, true, length, slice_set, slice_index_or, Result}
+use Rattle.std.proofs.Common.{◌≡◌, refl, sym, ap, subst, ℕ, ◌<◌, true, List, length, slice_set, slice_index_or, Result}
 use Rattle.std.proofs.lemmas.Option.{slice_get_read}
 use Rattle.std.proofs.lemmas.Bool.{ltb-true}
 use Rattle.std.specs.declared.alloc.AllocError.{AllocError}
@@ -12,6 +12,8 @@ use Rattle.fl_core.specs.View.{TheCore}
 use Rattle.fl_core.specs.Ends.{OnBoard}
 use Rattle.fl_core_run.specs.Run.{SideRelations, TheRun, lends_in}
 use Rattle.fl_core_run.specs.LogEntries.{DispatcherTurn, dispatcher_turn, TurnsOver}
+use Rattle.fl_core_run.specs.Inside.{OverSide}
+use Rattle.fl_core_run.proofs.Sides.{on_ring}
 
 -- it leaves ends' progress
 pub same_progresses : {S : Type 0} (w : SideRelations S) (x : DispatcherTurn) (i : Inlet) (s t : TheRun S) → TurnsOver w x i s t → t.progresses ≡ s.progresses
@@ -33,16 +35,9 @@ over_queue {S} w d e n i answer s k2 p q is lent value turns =
       rest = refl;
     })
 
-pub over_side : {S : Type 0} (w : SideRelations S) (d e n : ℕ) (i : Inlet) (answer : Result TurnAnswer AllocError) (s : TheRun S) (k2 : TheCore) (p q : S)
-    → i ≡ Side n → lends_in s i ≡ true → p ≡ slice_index_or s.rings n p → OnBoard s.core (λ b c. Turns w.takes d e (over b p) answer (over c q)) k2
-    → TurnsOver w (dispatcher_turn d e answer) i s (record s { core = k2; rings = slice_set s.rings n q })
-over_side {S} w d e n i answer s k2 p q is lent value turns =
-    let lends : lends_in s (Side n) ≡ true = subst (λ (j : Inlet). lends_in s j ≡ true) is lent in
-    let below : n < length s.rings = ltb-true n (length s.rings) lends in
-    subst (λ (j : Inlet). TurnsOver w (dispatcher_turn d e answer) j s (record s { core = k2; rings = slice_set s.rings n q })) (sym is) (record {
-      before = p;
-      before_is = slice_get_read s.rings (length s.rings) n p refl below value;
-      after = q;
-      event = turns;
-      rest = refl;
-    })
+pub over_side : {S : Type 0} (w : SideRelations S) (d e n : ℕ) (i : Inlet) (answer : Result TurnAnswer AllocError) (s : TheRun S) (k2 : TheCore) (ts : List S)
+    → i ≡ Side n → OverSide n s.rings (λ p q. OnBoard s.core (λ b c. Turns w.takes d e (over b p) answer (over c q)) k2) ts
+    → TurnsOver w (dispatcher_turn d e answer) i s (record s { core = k2; rings = ts })
+over_side w d e n i answer s k2 ts is turns =
+    subst (λ (j : Inlet). TurnsOver w (dispatcher_turn d e answer) j s (record s { core = k2; rings = ts })) (sym is)
+    (on_ring s n ts (λ k p m q. OnBoard k (λ b c. Turns w.takes d e (over b p) answer (over c q)) m) k2 turns)

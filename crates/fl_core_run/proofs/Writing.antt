@@ -1,5 +1,5 @@
 -- A write of an end is one over where it puts.
-use Rattle.std.proofs.Common.{◌≡◌, refl, sym, ap, ◌∙◌, subst, ℕ, nat_lt, length, Option, Some, None, true, get_or, slice_set, Result}
+use Rattle.std.proofs.Common.{◌≡◌, refl, sym, ap, ◌∙◌, subst, ℕ, nat_lt, List, length, Option, Some, None, true, get_or, slice_set, Result}
 use Rattle.std.proofs.lemmas.Bool.{ltb-true}
 use Rattle.std.proofs.lemmas.Option.{slice_get_read}
 use Rattle.fl_base.specs.declared.identity.EndId.{EndId}
@@ -15,7 +15,8 @@ use Rattle.fl_core_run.specs.declared.lent.LentPutEnd.{LentPutEnd}
 use Rattle.fl_core_run.specs.Run.{SideRelations, TheRun, lends_out, lent_post_at, lent_post}
 use Rattle.fl_core_run.specs.LogEntries.{WritesOver, IsSound, IsSoundAt}
 use Rattle.fl_core_run.specs.Steps.{WritesFrom}
-use Rattle.fl_core_run.specs.Inside.{OfPlace}
+use Rattle.fl_core_run.specs.Inside.{OfPlace, OverSide}
+use Rattle.fl_core_run.proofs.Sides.{on_ring}
 
 module _ {S : Type 0} (w : SideRelations S) (e n : ℕ) (out : Outlet) (answer : Result WriteAnswer EndFault) (s : TheRun S) (core : TheCore) where
   pub over_queue : (before after : TheQueue) → out ≡ outlet.Queue n → lends_out s out ≡ true → before ≡ get_or s.queues n before
@@ -32,19 +33,11 @@ module _ {S : Type 0} (w : SideRelations S) (e n : ℕ) (out : Outlet) (answer :
         rest = refl;
       })
 
-  pub over_ring : (before after : S) → out ≡ outlet.Side n → lends_out s out ≡ true → before ≡ get_or s.rings n before
-      → WritesAt w.puts e (at_side s.core before) answer (at_side core after)
-      → WritesOver w e out answer s (record s { core = core; rings = slice_set s.rings n after })
-  over_ring before after is lent read event =
-      let within : nat_lt n (length s.rings) ≡ true = ap (lends_out s) (sym is) ∙ lent in
-      subst (λ (o : Outlet). WritesOver w e o answer s (record s { core = core; rings = slice_set s.rings n after })) (sym is)
-      (record {
-        before = before;
-        before_is = slice_get_read s.rings _ n before refl (ltb-true _ _ within) read;
-        after = after;
-        event = event;
-        rest = refl;
-      })
+  pub over_ring : (ts : List S) → out ≡ outlet.Side n → OverSide n s.rings (λ p q. WritesAt w.puts e (at_side s.core p) answer (at_side core q)) ts
+      → WritesOver w e out answer s (record s { core = core; rings = ts })
+  over_ring ts is event =
+      subst (λ (o : Outlet). WritesOver w e o answer s (record s { core = core; rings = ts })) (sym is)
+      (on_ring s n ts (λ k p k2 q. WritesAt w.puts e (at_side k p) answer (at_side k2 q)) core event)
 
 -- ---- by the end's place
 

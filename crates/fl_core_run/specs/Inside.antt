@@ -1,5 +1,5 @@
 -- A working file, on which no public promise rests by itself.
-use Rattle.std.specs.Prelude.{ℕ, ◌≡◌, ◌<◌, false, List, length, slice_get, Option, Some, None, IfSome, Result, Ok, Err}
+use Rattle.std.specs.Prelude.{ℕ, ◌≡◌, ◌<◌, false, List, length, slice_get, slice_set, Option, Some, None, IfSome, Result, Ok, Err}
 use Rattle.fl_base.specs.declared.identity.EndId.{EndId}
 use Rattle.fl_base.specs.declared.fragment.Frag.{Frag}
 use Rattle.fl_base.specs.Control.{is_ack_only, with_circuit, bare}
@@ -14,8 +14,19 @@ use Rattle.fl_core_run.specs.EndProgress.{TheEndProgress, progress_place}
 use Rattle.fl_core_run.specs.Run.{SideRelations, TheRun}
 
 -- this fragment was seen to stand first at side n
+abbrev pub StandsFirst : {S : Type 0} → (S → Look) → ℕ → Frag → List S → Type 0
+StandsFirst {S} front n frag ss = (p : S) → slice_get ss n ≡ Some p → front p ≡ saw (bare frag)
+
 abbrev pub Fronts : {S : Type 0} → SideRelations S → ℕ → Frag → TheRun S → Type 0
-Fronts {S} w n frag s = (p : S) → slice_get s.rings n ≡ Some p → w.front p ≡ saw (bare frag)
+Fronts w n frag s = StandsFirst w.front n frag s.rings
+
+-- of some sides, that of this number alone has changed, as the event says
+pub record OverSide {S : Type 0} (n : ℕ) (ss : List S) (Event : S → S → Type 0) (ts : List S) : Type 0 where
+  pub before : S
+  pub before_is : slice_get ss n ≡ Some before
+  pub after : S
+  pub event : Event before after
+  pub rest : ts ≡ slice_set ss n after
 
 -- what a look found stands there still; where it goes on or to an end, it isn't one that only acknowledges
 abbrev pub Foresees : {S : Type 0} → SideRelations S → ℕ → Result LinkFront LinkReceiveFault → TheRun S → Type 0

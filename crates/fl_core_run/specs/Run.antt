@@ -1,5 +1,6 @@
 -- What a core's thread works on, as contracts see it: the core, the sides that it is lent, and an end's progress for each end, where its jobs lie.
 use Rattle.std.specs.Prelude.{ℕ, ◌≡◌, nat_lt, Bool, if◌then◌else◌, true, List, length, slice_get, Option, Some, None}
+use Rattle.std.specs.Global.{Vec}
 use Rattle.fl_base.specs.declared.identity.EndId.{EndId}
 use Rattle.fl_base.specs.declared.identity.LinkId.{LinkId}
 use Rattle.fl_base.specs.Given.{given}
@@ -40,14 +41,19 @@ pub record TheRun (S : Type 0) : Type 0 where
   -- its copies of the table of names and of the programs
   pub offers : Offers
 
-abbrev pub run_of : {S : Type 0} → RunningCore S → TheRun S
-run_of r = record {
+-- by the states in which its sides are
+abbrev pub run_by : {R S : Type 0} → (R → List S) → RunningCore R → TheRun S
+run_by states r = record {
   core = r.core;
-  rings = r.rings.items;
+  rings = states r.rings;
   queues = r.queues.items;
   progresses = r.progresses.items;
   offers = record { names = r.names; programs = r.programs.items };
 }
+
+-- where its sides are a list
+abbrev pub run_of : {S : Type 0} → RunningCore (Vec S) → TheRun S
+run_of r = run_by (λ v. v.items) r
 
 -- the same over other sides
 abbrev pub over : {S T : Type 0} → List T → TheRun S → TheRun T

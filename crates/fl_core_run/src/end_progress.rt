@@ -4,6 +4,7 @@ ghost use Rattle.std.specs.Prelude.{◌≡◌, ◌<◌, [], length, slice_get, I
 ghost use Rattle.fl_core_run.specs.EndProgress.{advanced, is_clear, with_handled, with_refusal, progress_place};
 
 use fl_base::{EndId, MAX_BINDINGS};
+use fl_compact_calls::CompactCall;
 use fl_core::slot_of;
 use fl_value_data::Call;
 use std::alloc::{AllocError, Global};
@@ -17,7 +18,7 @@ pub struct EndProgress {
     done: usize,
     // how many calls are to be handled here
     due: usize,
-    handled: Vec<Call>,
+    handled: Vec<CompactCall>,
     // the number with which the opening of its binding was refused, or 0
     refused: u32,
 }
@@ -74,10 +75,11 @@ impl EndProgress {
     }
 
     // A call was handled at its end.
-    pub(crate) fn take(&mut self, call: Call) -> Result<(), AllocError>
+    pub(crate) fn take(&mut self, alloc: Global, call: Call) -> Result<(), AllocError>
         ensures taken { OnOk result (self.new ≡ with_handled call self.old) }
         ensures kept { OnErr result (self.new ≡ self.old) }
     {
+        let call = CompactCall::keep(alloc, call)?;
         let Ok(()) = self.handled.push(call) else {
             return Err(AllocError);
         };
@@ -99,14 +101,14 @@ impl EndProgress {
     }
 
     /// The calls that its end handled, in order.
-    pub fn handled(&self) -> &[Call]
+    pub fn handled(&self) -> &[CompactCall]
         ensures handled { result.now ≡ self.now.handled }
     {
         self.handled.as_slice()
     }
 
     /// The same, for good.
-    pub fn into_handled(self) -> Vec<Call>
+    pub fn into_handled(self) -> Vec<CompactCall>
         ensures handled { result.items ≡ self.handled }
     {
         self.handled

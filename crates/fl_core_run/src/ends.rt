@@ -3,7 +3,7 @@
 ghost use Rattle.std.specs.Prelude.{◌≡◌, ◌<◌, true, length, Some, None, IfSome, IfNone, IfOk, OnOk, OnErr};
 ghost use Rattle.fl_value_data.specs.Value.{call_of};
 ghost use Rattle.fl_core.specs.View.{place_of};
-ghost use Rattle.fl_core_run.specs.Run.{ways, run_of, AtProgress, lends_out, lent_post, next_at, next_job};
+ghost use Rattle.fl_core_run.specs.Run.{ways, run_by, AtProgress, lends_out, lent_post, next_at, next_job};
 ghost use Rattle.fl_core_run.specs.EndProgress.{advanced, progress_place};
 ghost use Rattle.fl_core_run.specs.Inside.{HasLeft, OfProgress, OfPlace, IsPlaceOf};
 ghost use Rattle.fl_core_run.specs.LogEntries.{WritesOver};
@@ -12,14 +12,15 @@ ghost use Rattle.fl_core_run.specs.Turn.{ForEach};
 ghost use Rattle.fl_core_run.specs.Wants.{AcceptsAt, DoesJob};
 ghost use Rattle.fl_core_run.specs.Stops.{LeavesJob, StopsAmong};
 
+use crate::core_sides::CoreSides;
 use crate::lent::{lent_post, lent_ring_end};
 use crate::opening::open;
+use crate::over;
 use crate::running::{RunningCore, law_sound, law_sound_at};
 use fl_base::{EndId, MsgNo};
+use fl_compact_calls::CompactCall;
 use fl_core::{CoreJob, Outlet};
 use fl_endpoint::{EndFault, WriteAnswer};
-use fl_link::{PutSide, TakeSide};
-use fl_value_data::Call;
 use std::alloc::AllocError;
 
 // Each end is found once: where its progress is, and where it is at the core. Both are handed on, as places.
@@ -28,14 +29,14 @@ use std::alloc::AllocError;
 
 // The job that is next by an end's progress.
 #[inline(always)]
-pub(crate) fn next_job<'a, S>(
+pub(crate) fn next_job<'a, S: CoreSides>(
     run: &RunningCore<S>,
     jobs: &'a [CoreJob],
     progress: Option<usize>,
 ) -> Option<&'a CoreJob>
     requires there { IfSome progress (λ n. n < length run.now.progresses.items) }
-    ensures next { IfSome result (λ job. next_at jobs.now (run_of run.now) progress ≡ Some job.now) }
-    ensures none { IfNone result (next_at jobs.now (run_of run.now) progress ≡ None) }
+    ensures next { IfSome result (λ job. next_at jobs.now (run_by S.states run.now) progress ≡ Some job.now) }
+    ensures none { IfNone result (next_at jobs.now (run_by S.states run.now) progress ≡ None) }
     ensures left { IfSome result (λ _. HasLeft run.now.progresses.items progress) }
 {
     match progress {
@@ -58,9 +59,9 @@ fn is_memory(answer: Result<(), EndFault>) -> bool
 }
 
 // The next job by an end's progress is done.
-pub(crate) fn advance<S>(run: &mut RunningCore<S>, progress: Option<usize>)
+pub(crate) fn advance<S: CoreSides>(run: &mut RunningCore<S>, progress: Option<usize>)
     requires left { HasLeft run.old.progresses.items progress }
-    ensures advanced { OfProgress progress (run_of run.old) (λ name. AtProgress name advanced (run_of run.old) (run_of run.new)) }
+    ensures advanced { OfProgress progress (run_by S.states run.old) (λ name. AtProgress name advanced (run_by S.states run.old) (run_by S.states run.new)) }
 {
     match progress {
         None => (),
@@ -69,17 +70,18 @@ pub(crate) fn advance<S>(run: &mut RunningCore<S>, progress: Option<usize>)
 }
 
 // Tries to make the next call of an end, where that is; one that is refused waits. Tells where the end is.
-fn try_call<S: PutSide + TakeSide + Drop>(
+fn try_call<S: CoreSides>(
     run: &mut RunningCore<S>,
     name: EndId,
     progress: Option<usize>,
-    next: &Call,
+    next: &CompactCall,
 ) -> Result<Option<usize>, AllocError>
     requires found { progress_place run.old.progresses.items name ≡ progress }
     requires left { HasLeft run.old.progresses.items progress }
-    ensures calls { OnOk result (CallsAt (ways S.puts S.takes S.front) name next.now (place_of run.old.core name) (run_of run.old) (run_of run.new)) }
+    ensures calls { OnOk result (CallsAt (ways S.puts S.takes S.front) name next.now (place_of run.old.core name)
+        (run_by S.states run.old) (run_by S.states run.new)) }
     ensures place { IfOk result (λ place. IsPlaceOf run.new.core name place) }
-    ensures kept { OnErr result (run_of run.new ≡ run_of run.old) }
+    ensures kept { OnErr result (run_by S.states run.new ≡ run_by S.states run.old) }
     ensures accepts { OnErr result (AcceptsAt run.old.core name (call_of next.now)) }
 {
     law_sound(run);
@@ -91,7 +93,8 @@ fn try_call<S: PutSide + TakeSide + Drop>(
             if run.core.board().end(e).is_busy() {
                 return Ok(Some(e));
             }
-            let answer = run.core.call(e, next);
+            let call = next.lend(&mut run.spare);
+            let answer = run.core.call(e, call);
             if is_memory(answer) {
                 return Err(AllocError);
             }
@@ -105,7 +108,7 @@ fn try_call<S: PutSide + TakeSide + Drop>(
 }
 
 // Sets the rule that is the next job of an end, where that is. Tells where the end is.
-fn try_rule<S: PutSide + TakeSide + Drop>(
+fn try_rule<S: CoreSides>(
     run: &mut RunningCore<S>,
     name: EndId,
     progress: Option<usize>,
@@ -114,7 +117,8 @@ fn try_rule<S: PutSide + TakeSide + Drop>(
 ) -> Option<usize>
     requires found { progress_place run.old.progresses.items name ≡ progress }
     requires left { HasLeft run.old.progresses.items progress }
-    ensures rules { RulesAt (ways S.puts S.takes S.front) (reply_rule name msg reply) (place_of run.old.core name) (run_of run.old) (run_of run.new) }
+    ensures rules { RulesAt (ways S.puts S.takes S.front) (reply_rule name msg reply) (place_of run.old.core name)
+        (run_by S.states run.old) (run_by S.states run.new) }
     ensures place { IsPlaceOf run.new.core name result }
 {
     law_sound(run);
@@ -133,22 +137,23 @@ fn try_rule<S: PutSide + TakeSide + Drop>(
 ///
 /// # Errors
 /// Out of memory, only where the job would be done. Nothing has happened then.
-pub(crate) fn try_job<S: PutSide + TakeSide + Drop>(
+pub(crate) fn try_job<S: CoreSides>(
     run: &mut RunningCore<S>,
     jobs: &[CoreJob],
     name: EndId,
 ) -> Result<Option<usize>, AllocError>
-    ensures tries { OnOk result (Tries (ways S.puts S.takes S.front) name (next_job jobs.now (run_of run.old) name) (run_of run.old) (run_of run.new)) }
+    ensures tries { OnOk result (Tries (ways S.puts S.takes S.front) name (next_job jobs.now (run_by S.states run.old) name)
+        (run_by S.states run.old) (run_by S.states run.new)) }
     ensures place { IfOk result (λ place. IsPlaceOf run.new.core name place) }
-    ensures kept { OnErr result (run_of run.new ≡ run_of run.old) }
-    ensures does { OnErr result (DoesJob (run_of run.old) name (next_job jobs.now (run_of run.old) name)) }
+    ensures kept { OnErr result (run_by S.states run.new ≡ run_by S.states run.old) }
+    ensures does { OnErr result (DoesJob (run_by S.states run.old) name (next_job jobs.now (run_by S.states run.old) name)) }
 {
     let progress = run.progress_of(name);
     match next_job(run, jobs, progress) {
         None => Ok(run.core.place(name)),
         Some(job) => match job {
             CoreJob::Open(request) => {
-                open(run, progress, request)?;
+                open(run, progress, request.get())?;
                 Ok(run.core.place(name))
             }
             CoreJob::Call { call, .. } => try_call(run, name, progress, call),
@@ -160,26 +165,26 @@ pub(crate) fn try_job<S: PutSide + TakeSide + Drop>(
 // ---- writes
 
 // Writes a fragment of the end at a place to where it puts.
-fn write_to<S: PutSide + TakeSide + Drop>(
+fn write_to<S: CoreSides>(
     run: &mut RunningCore<S>,
     e: usize,
     outlet: Outlet,
 ) -> Result<WriteAnswer, EndFault>
     requires there { e < length run.old.core.board.seats }
-    requires lent { lends_out (run_of run.old) outlet ≡ true }
-    ensures wrote { WritesOver (ways S.puts S.takes S.front) e outlet result (run_of run.old) (run_of run.new) }
+    requires lent { lends_out (run_by S.states run.old) outlet ≡ true }
+    ensures wrote { WritesOver (ways S.puts S.takes S.front) e outlet result (run_by S.states run.old) (run_by S.states run.new) }
 {
     match outlet {
         Outlet::Queue(n) => run.core.write(e, &mut run.queues[n]),
-        Outlet::Side(n) => run.core.write(e, &mut run.rings[n]),
+        Outlet::Side(n) => over::write(&mut run.core, &mut run.rings, n, e),
     }
 }
 
 // One write of the end at a place, if it is at the core.
-pub(crate) fn write<S: PutSide + TakeSide + Drop>(run: &mut RunningCore<S>, place: Option<usize>)
+pub(crate) fn write<S: CoreSides>(run: &mut RunningCore<S>, place: Option<usize>)
     requires there { IfSome place (λ e. e < length run.old.core.board.seats) }
-    ensures writes { OfPlace place (run_of run.old) (λ name. WritesFrom (ways S.puts S.takes S.front) name (lent_post (run_of run.old) name)
-        (run_of run.old) (run_of run.new)) }
+    ensures writes { OfPlace place (run_by S.states run.old) (λ name. WritesFrom (ways S.puts S.takes S.front) name (lent_post (run_by S.states run.old) name)
+        (run_by S.states run.old) (run_by S.states run.new)) }
 {
     law_sound(run);
     match place {
@@ -201,13 +206,14 @@ pub(crate) fn write<S: PutSide + TakeSide + Drop>(run: &mut RunningCore<S>, plac
 ///
 /// # Errors
 /// As [`try_job`].
-pub(crate) fn serve_all<S: PutSide + TakeSide + Drop>(
+pub(crate) fn serve_all<S: CoreSides>(
     run: &mut RunningCore<S>,
     ends: &[EndId],
     jobs: &[CoreJob],
 ) -> Result<(), AllocError>
-    ensures serves { OnOk result (ForEach ends.now (Serves (ways S.puts S.takes S.front) jobs.now) (run_of run.old) (run_of run.new)) }
-    ensures stops { OnErr result (StopsAmong ends.now (Serves (ways S.puts S.takes S.front) jobs.now) (LeavesJob jobs.now) (run_of run.old) (run_of run.new)) }
+    ensures serves { OnOk result (ForEach ends.now (Serves (ways S.puts S.takes S.front) jobs.now) (run_by S.states run.old) (run_by S.states run.new)) }
+    ensures stops { OnErr result (StopsAmong ends.now (Serves (ways S.puts S.takes S.front) jobs.now) (LeavesJob jobs.now)
+        (run_by S.states run.old) (run_by S.states run.new)) }
 {
     for k in 0..ends.len() {
         let place = try_job(run, jobs, ends[k])?;
@@ -219,21 +225,21 @@ pub(crate) fn serve_all<S: PutSide + TakeSide + Drop>(
 // ---- acknowledgements
 
 // One acknowledgement of an end, where it is a ring's.
-pub(crate) fn ack<S: PutSide + TakeSide + Drop>(run: &mut RunningCore<S>, name: EndId)
-    ensures acks { Acknowledges (ways S.puts S.takes S.front) name (run_of run.old) (run_of run.new) }
+pub(crate) fn ack<S: CoreSides>(run: &mut RunningCore<S>, name: EndId)
+    ensures acks { Acknowledges (ways S.puts S.takes S.front) name (run_by S.states run.old) (run_by S.states run.new) }
 {
     law_sound(run);
     match lent_ring_end(run, name) {
         None => (),
         Some(ring_end) => {
-            let _ = run.core.ack(ring_end.end, &mut run.rings[ring_end.side]);
+            let _ = over::ack(&run.core, &mut run.rings, ring_end.side, ring_end.end);
         }
     }
 }
 
 /// An acknowledgement for each end of a ring.
-pub(crate) fn ack_all<S: PutSide + TakeSide + Drop>(run: &mut RunningCore<S>, ends: &[EndId])
-    ensures acks { ForEach ends.now (Acknowledges (ways S.puts S.takes S.front)) (run_of run.old) (run_of run.new) }
+pub(crate) fn ack_all<S: CoreSides>(run: &mut RunningCore<S>, ends: &[EndId])
+    ensures acks { ForEach ends.now (Acknowledges (ways S.puts S.takes S.front)) (run_by S.states run.old) (run_by S.states run.new) }
 {
     for k in 0..ends.len() {
         ack(run, ends[k]);

@@ -1,15 +1,16 @@
 //! When a core has nothing left to do.
 
 ghost use Rattle.std.specs.Prelude.{◌≡◌, ◌<◌, length};
-ghost use Rattle.fl_core_run.specs.Run.{run_of};
+ghost use Rattle.fl_core_run.specs.Run.{run_by};
 ghost use Rattle.fl_core_run.specs.Finished.{is_at_rest, is_progress_clear, is_done_at, is_finished};
 
+use crate::core_sides::CoreSides;
 use crate::opening_status::OpeningStatus;
 use crate::running::RunningCore;
 use fl_base::EndId;
 
 // Whether an end is bound and has written all that it accepted, where it is at this core.
-fn is_at_rest<S>(run: &RunningCore<S>, name: EndId) -> bool
+fn is_at_rest<S: CoreSides>(run: &RunningCore<S>, name: EndId) -> bool
     ensures rest { result ≡ is_at_rest run.now.core name }
 {
     match run.core.place(name) {
@@ -22,8 +23,8 @@ fn is_at_rest<S>(run: &RunningCore<S>, name: EndId) -> bool
 }
 
 // Whether all jobs at an end are done, and all calls for it handled.
-fn is_progress_clear<S>(run: &RunningCore<S>, name: EndId) -> bool
-    ensures clear { result ≡ is_progress_clear (run_of run.now) name }
+fn is_progress_clear<S: CoreSides>(run: &RunningCore<S>, name: EndId) -> bool
+    ensures clear { result ≡ is_progress_clear (run_by S.states run.now) name }
 {
     match run.progress_of(name) {
         None => true,
@@ -32,8 +33,8 @@ fn is_progress_clear<S>(run: &RunningCore<S>, name: EndId) -> bool
 }
 
 // Whether nothing is left to do at an end.
-fn is_done_at<S>(run: &RunningCore<S>, name: EndId, word: OpeningStatus) -> bool
-    ensures done { result ≡ is_done_at (run_of run.now) name word }
+fn is_done_at<S: CoreSides>(run: &RunningCore<S>, name: EndId, word: OpeningStatus) -> bool
+    ensures done { result ≡ is_done_at (run_by S.states run.now) name word }
 {
     match word {
         OpeningStatus::Refused(_) => true,
@@ -44,9 +45,13 @@ fn is_done_at<S>(run: &RunningCore<S>, name: EndId, word: OpeningStatus) -> bool
 }
 
 /// Whether nothing is left to do.
-pub(crate) fn is_finished<S>(run: &RunningCore<S>, ends: &[EndId], words: &[OpeningStatus]) -> bool
+pub(crate) fn is_finished<S: CoreSides>(
+    run: &RunningCore<S>,
+    ends: &[EndId],
+    words: &[OpeningStatus],
+) -> bool
     requires { length words.now ≡ length ends.now }
-    ensures finished { result ≡ is_finished (run_of run.now) ends.now words.now }
+    ensures finished { result ≡ is_finished (run_by S.states run.now) ends.now words.now }
 {
     for k in 0..ends.len() {
         if !is_done_at(run, ends[k], words[k]) {

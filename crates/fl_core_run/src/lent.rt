@@ -4,8 +4,9 @@ ghost use Rattle.std.specs.Prelude.{◌≡◌, ◌<◌, length, true, Some, IfSo
 ghost use Rattle.fl_core.specs.BoardView.{due};
 ghost use Rattle.fl_core.specs.View.{place_of, inlet_of, outlet_of};
 ghost use Rattle.fl_core.specs.declared.wiring.Inlet.TheVariants.{Side};
-ghost use Rattle.fl_core_run.specs.Run.{run_of, lent_link_side, lends_out, lends_in, lent_post_at, lent_due, lent_ring_end};
+ghost use Rattle.fl_core_run.specs.Run.{run_by, lent_link_side, lends_out, lends_in, lent_post_at, lent_due, lent_ring_end};
 
+use crate::core_sides::CoreSides;
 use crate::running::RunningCore;
 use fl_base::{EndId, LinkId};
 use fl_core::{Inlet, Outlet};
@@ -32,43 +33,43 @@ pub struct LentRingEnd {
 }
 
 /// The side of a link.
-pub(crate) fn lent_link_side<S>(run: &RunningCore<S>, link: LinkId) -> Option<usize>
-    ensures link_side { result ≡ lent_link_side (run_of run.now) link }
-    ensures side { IfSome result (λ n. n < length run.now.rings.items) }
+pub(crate) fn lent_link_side<S: CoreSides>(run: &RunningCore<S>, link: LinkId) -> Option<usize>
+    ensures link_side { result ≡ lent_link_side (run_by S.states run.now) link }
+    ensures side { IfSome result (λ n. n < length (S.states run.now.rings)) }
     ensures link { IfSome result (λ _. link.0 < length run.now.core.link_sides) }
 {
     match run.core.side(link) {
-        Some(side) if side < run.rings.len() => Some(side),
+        Some(side) if side < run.rings.count() => Some(side),
         _ => None,
     }
 }
 
 // Whether what an end puts to is lent.
-fn lends_out<S>(run: &RunningCore<S>, outlet: Outlet) -> bool
-    ensures lends { result ≡ lends_out (run_of run.now) outlet }
+fn lends_out<S: CoreSides>(run: &RunningCore<S>, outlet: Outlet) -> bool
+    ensures lends { result ≡ lends_out (run_by S.states run.now) outlet }
 {
     match outlet {
         Outlet::Queue(n) => n < run.queues.len(),
-        Outlet::Side(n) => n < run.rings.len(),
+        Outlet::Side(n) => n < run.rings.count(),
     }
 }
 
 // Whether what an end takes from is lent.
-fn lends_in<S>(run: &RunningCore<S>, inlet: Inlet) -> bool
-    ensures lends { result ≡ lends_in (run_of run.now) inlet }
+fn lends_in<S: CoreSides>(run: &RunningCore<S>, inlet: Inlet) -> bool
+    ensures lends { result ≡ lends_in (run_by S.states run.now) inlet }
 {
     match inlet {
         Inlet::Queue(n) => n < run.queues.len(),
-        Inlet::Side(n) => n < run.rings.len(),
+        Inlet::Side(n) => n < run.rings.count(),
         Inlet::Arrivals => true,
     }
 }
 
 /// The end at a place, and where it puts, where that is lent.
-pub(crate) fn lent_post<S>(run: &RunningCore<S>, end: usize) -> Option<LentPutEnd>
+pub(crate) fn lent_post<S: CoreSides>(run: &RunningCore<S>, end: usize) -> Option<LentPutEnd>
     requires there { end < length run.now.core.board.seats }
-    ensures post { result ≡ lent_post_at (run_of run.now) end }
-    ensures lent { IfSome result (λ p. lends_out (run_of run.now) p.outlet ≡ true) }
+    ensures post { result ≡ lent_post_at (run_by S.states run.now) end }
+    ensures lent { IfSome result (λ p. lends_out (run_by S.states run.now) p.outlet ≡ true) }
 {
     let outlet = run.core.outlet(end);
     if !lends_out(run, outlet) {
@@ -78,13 +79,13 @@ pub(crate) fn lent_post<S>(run: &RunningCore<S>, end: usize) -> Option<LentPutEn
 }
 
 /// At which end a dispatcher's turn looks, and where that takes from.
-pub(crate) fn lent_due<S>(run: &RunningCore<S>, dispatcher: usize) -> Option<LentTakeEnd>
-    ensures due { result ≡ lent_due (run_of run.now) dispatcher }
+pub(crate) fn lent_due<S: CoreSides>(run: &RunningCore<S>, dispatcher: usize) -> Option<LentTakeEnd>
+    ensures due { result ≡ lent_due (run_by S.states run.now) dispatcher }
     ensures there { IfSome result (λ p. p.end < length run.now.core.board.seats) }
     ensures dispatcher { IfSome result (λ _. dispatcher < length run.now.core.board.dispatchers) }
     ensures is_due { IfSome result (λ p. due run.now.core.board dispatcher ≡ Some p.end) }
     ensures inlet { IfSome result (λ p. inlet_of run.now.core p.end ≡ Some p.inlet) }
-    ensures lent { IfSome result (λ p. lends_in (run_of run.now) p.inlet ≡ true) }
+    ensures lent { IfSome result (λ p. lends_in (run_by S.states run.now) p.inlet ≡ true) }
 {
     if dispatcher >= run.core.board().dispatchers() {
         return None;
@@ -100,12 +101,12 @@ pub(crate) fn lent_due<S>(run: &RunningCore<S>, dispatcher: usize) -> Option<Len
 }
 
 /// Where an end of a ring is, and its side.
-pub(crate) fn lent_ring_end<S>(run: &RunningCore<S>, name: EndId) -> Option<LentRingEnd>
-    ensures ring_end { result ≡ lent_ring_end (run_of run.now) name }
+pub(crate) fn lent_ring_end<S: CoreSides>(run: &RunningCore<S>, name: EndId) -> Option<LentRingEnd>
+    ensures ring_end { result ≡ lent_ring_end (run_by S.states run.now) name }
     ensures there { IfSome result (λ b. b.end < length run.now.core.board.seats) }
     ensures place { IfSome result (λ b. place_of run.now.core name ≡ Some b.end) }
     ensures inlet { IfSome result (λ b. inlet_of run.now.core b.end ≡ Some (Side b.side)) }
-    ensures lent { IfSome result (λ b. b.side < length run.now.rings.items) }
+    ensures lent { IfSome result (λ b. b.side < length (S.states run.now.rings)) }
 {
     let Some(end) = run.core.place(name) else {
         return None;
@@ -113,7 +114,7 @@ pub(crate) fn lent_ring_end<S>(run: &RunningCore<S>, name: EndId) -> Option<Lent
     let Inlet::Side(side) = run.core.inlet(end) else {
         return None;
     };
-    if side >= run.rings.len() {
+    if side >= run.rings.count() {
         return None;
     }
     Some(LentRingEnd { end, side })

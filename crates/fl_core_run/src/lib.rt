@@ -17,6 +17,8 @@
 //!
 //! - `running.rt`: `RunningCore`, and turns
 //! - `single.rt`: what a turn is made of, one by one
+//! - `core_sides.rt`: the sides that a core is lent
+//! - `over.rt`: what is done over one of them
 //! - `links.rt`: what is done for a link
 //! - `ends.rt`: what is done for an end
 //! - `opening.rt`: a job that opens a circuit
@@ -30,6 +32,7 @@
 //! - `rest.rt`: pauses between turns that find nothing
 #![tactic(auto)]
 
+mod core_sides;
 mod dispatchers;
 mod end_progress;
 mod ends;
@@ -40,6 +43,7 @@ mod lent;
 mod links;
 mod opening;
 mod opening_status;
+mod over;
 mod plan;
 mod rest;
 mod run;
@@ -47,6 +51,7 @@ mod run_seat;
 mod running;
 mod single;
 
+pub use core_sides::CoreSides;
 pub use end_progress::EndProgress;
 pub use fault::CoreRunFault;
 pub use gate::Gate;

@@ -1,10 +1,9 @@
 //! What is done for a link: a forward, a monitor write, an acknowledgement.
 
-ghost use Rattle.std.specs.Prelude.{◌≡◌, ◌≢◌, ◌<◌, false, length, slice_get, Some, Ok, IfOk, OnOk, OnErr};
-ghost use Rattle.fl_base.specs.Control.{is_ack_only, with_circuit, bare};
+ghost use Rattle.std.specs.Prelude.{◌≡◌, ◌≢◌, ◌<◌, false, length, Ok, IfOk, OnOk, OnErr};
+ghost use Rattle.fl_base.specs.Control.{is_ack_only, with_circuit};
 ghost use Rattle.fl_base.specs.declared.fragment.Frag.{Frag as TheFrag};
-ghost use Rattle.fl_link.specs.Looks.{saw, found};
-ghost use Rattle.fl_core_run.specs.Run.{ways, run_of};
+ghost use Rattle.fl_core_run.specs.Run.{ways, run_by};
 ghost use Rattle.fl_core_run.specs.LogEntries.{passed, arrived, heard, Does, NotesHeard};
 ghost use Rattle.fl_core_run.specs.Steps.{lacks_to_hear, HandsOut, Forwards, Says, Tells};
 ghost use Rattle.fl_core_run.specs.Turn.{ForEach};
@@ -13,12 +12,14 @@ ghost use Rattle.fl_core.specs.declared.answer.LinkFront.TheVariants.{Message};
 ghost use Rattle.fl_core.specs.Hearing.{HearsFragLast};
 ghost use Rattle.fl_core_run.specs.Inside.{Fronts, Foresees};
 
+use crate::core_sides::CoreSides;
 use crate::lent::lent_link_side;
+use crate::over;
 use crate::running::{RunningCore, law_sound};
 use fl_base::{Circuit, EndId, Frag, LinkId};
 use fl_core::{LinkFront, LinkReceiveFault, MonitorAnswer};
 use fl_hop::ForwardOutcome;
-use fl_link::{PutFault, PutSide, TakeSide};
+use fl_link::PutFault;
 use std::alloc::AllocError;
 
 // ---- forwards
@@ -34,23 +35,30 @@ fn is_memory(answer: Result<MonitorAnswer, LinkReceiveFault>) -> bool
 }
 
 // Hears the monitors' message that was seen to stand first.
-fn hear<S: PutSide + TakeSide + Drop>(
+fn hear<S: CoreSides>(
     run: &mut RunningCore<S>,
     n: usize,
     link: LinkId,
     frag: &Frag,
 ) -> Result<Result<MonitorAnswer, LinkReceiveFault>, AllocError>
-    requires side { n < length run.old.rings.items }
+    requires side { n < length (S.states run.old.rings) }
     requires link { link.0 < length run.old.core.link_sides }
-    requires seen { (p : S) → slice_get run.old.rings.items n ≡ Some p → S.front p ≡ saw (bare frag.now) }
-    ensures heard { IfOk result (λ answer. Does (ways S.puts S.takes S.front) (heard n link frag.now answer) (run_of run.old) (run_of run.new)) }
+    requires seen { Fronts (ways S.puts S.takes S.front) n frag.now (run_by S.states run.old) }
+    ensures heard { IfOk result (λ answer. Does (ways S.puts S.takes S.front) (heard n link frag.now answer) (run_by S.states run.old)
+        (run_by S.states run.new)) }
     ensures memory { IfOk result (λ answer. lacks_to_hear answer ≡ false) }
-    ensures kept { OnErr result (run_of run.new ≡ run_of run.old) }
-    ensures last { OnErr result (HearsFragLast (run_of run.old).offers link frag.now run.old.core LinkReceiveFault.Memory) }
+    ensures kept { OnErr result (run_by S.states run.new ≡ run_by S.states run.old) }
+    ensures last { OnErr result (HearsFragLast (run_by S.states run.old).offers link frag.now run.old.core LinkReceiveFault.Memory) }
 {
-    let answer = run
-        .core
-        .hear(link, &mut run.rings[n], frag, &run.names, &run.programs);
+    let answer = over::hear(
+        &mut run.core,
+        &mut run.rings,
+        n,
+        link,
+        frag,
+        &run.names,
+        &run.programs,
+    );
     if is_memory(answer) {
         return Err(AllocError);
     }
@@ -61,8 +69,8 @@ fn hear<S: PutSide + TakeSide + Drop>(
 }
 
 // Notes the word that an opening is refused.
-fn note<S>(run: &mut RunningCore<S>, answer: Result<MonitorAnswer, LinkReceiveFault>)
-    ensures notes { NotesHeard answer (run_of run.old) (run_of run.new) }
+fn note<S: CoreSides>(run: &mut RunningCore<S>, answer: Result<MonitorAnswer, LinkReceiveFault>)
+    ensures notes { NotesHeard answer (run_by S.states run.old) (run_by S.states run.new) }
 {
     let Ok(MonitorAnswer::OpeningRefused(end, reason)) = answer else {
         return;
@@ -73,26 +81,26 @@ fn note<S>(run: &mut RunningCore<S>, answer: Result<MonitorAnswer, LinkReceiveFa
 }
 
 // Passes on a fragment that was seen to stand first on one side, over another.
-fn cross<S: PutSide + TakeSide + Drop>(
+fn cross<S: CoreSides>(
     run: &mut RunningCore<S>,
     from: usize,
     to: usize,
     frag: &Frag,
     circuit: Circuit,
 ) -> ForwardOutcome
-    requires from { from < length run.old.rings.items }
-    requires to { to < length run.old.rings.items }
+    requires from { from < length (S.states run.old.rings) }
+    requires to { to < length (S.states run.old.rings) }
     requires two { from ≢ to }
-    requires seen { Fronts (ways S.puts S.takes S.front) from frag.now (run_of run.old) }
+    requires seen { Fronts (ways S.puts S.takes S.front) from frag.now (run_by S.states run.old) }
     requires call { is_ack_only (with_circuit circuit.0 frag.now) ≡ false }
-    ensures passed { Does (ways S.puts S.takes S.front) (passed from to frag.now circuit result) (run_of run.old) (run_of run.new) }
+    ensures passed { Does (ways S.puts S.takes S.front) (passed from to frag.now circuit result) (run_by S.states run.old) (run_by S.states run.new) }
 {
     let sent = frag.with_circuit(circuit);
-    match run.rings[to].put(&sent) {
+    match over::put(&mut run.rings, to, &sent) {
         Err(PutFault::Full) => ForwardOutcome::Full,
         Err(PutFault::Spent) => ForwardOutcome::Spent,
         Ok(()) => {
-            let _ = run.rings[from].take();
+            let _ = over::take(&mut run.rings, from, frag);
             run.idle = 0;
             ForwardOutcome::Moved
         }
@@ -100,35 +108,35 @@ fn cross<S: PutSide + TakeSide + Drop>(
 }
 
 // Brings a fragment that was seen to stand first to an end.
-fn arrive<S: PutSide + TakeSide + Drop>(
+fn arrive<S: CoreSides>(
     run: &mut RunningCore<S>,
     n: usize,
     link: LinkId,
     frag: &Frag,
     end: EndId,
 ) -> Result<ForwardOutcome, LinkReceiveFault>
-    requires side { n < length run.old.rings.items }
+    requires side { n < length (S.states run.old.rings) }
     requires link { link.0 < length run.old.core.link_sides }
-    requires seen { (p : S) → slice_get run.old.rings.items n ≡ Some p → S.front p ≡ saw (bare frag.now) }
+    requires seen { Fronts (ways S.puts S.takes S.front) n frag.now (run_by S.states run.old) }
     requires call { is_ack_only (with_circuit 0 frag.now) ≡ false }
-    ensures arrived { Does (ways S.puts S.takes S.front) (arrived n link frag.now end result) (run_of run.old) (run_of run.new) }
+    ensures arrived { Does (ways S.puts S.takes S.front) (arrived n link frag.now end result) (run_by S.states run.old) (run_by S.states run.new) }
 {
-    run.core.arrive(link, &mut run.rings[n], frag, end)
+    over::arrive(&mut run.core, &mut run.rings, n, link, frag, end)
 }
 
 // Deals with what a look found.
-fn hand_out<S: PutSide + TakeSide + Drop>(
+fn hand_out<S: CoreSides>(
     run: &mut RunningCore<S>,
     n: usize,
     link: LinkId,
     found: Result<LinkFront, LinkReceiveFault>,
 ) -> Result<(), AllocError>
-    requires side { n < length run.old.rings.items }
+    requires side { n < length (S.states run.old.rings) }
     requires link { link.0 < length run.old.core.link_sides }
-    requires foreseen { Foresees (ways S.puts S.takes S.front) n found (run_of run.old) }
-    ensures hands_out { OnOk result (HandsOut (ways S.puts S.takes S.front) n link found (run_of run.old) (run_of run.new)) }
-    ensures left { OnErr result ((frag : TheFrag) × (found ≡ Ok (Message frag)) × (run_of run.new ≡ run_of run.old)
-        × HearsFragLast (run_of run.old).offers link frag run.old.core LinkReceiveFault.Memory) }
+    requires foreseen { Foresees (ways S.puts S.takes S.front) n found (run_by S.states run.old) }
+    ensures hands_out { OnOk result (HandsOut (ways S.puts S.takes S.front) n link found (run_by S.states run.old) (run_by S.states run.new)) }
+    ensures left { OnErr result ((frag : TheFrag) × (found ≡ Ok (Message frag)) × (run_by S.states run.new ≡ run_by S.states run.old)
+        × HearsFragLast (run_by S.states run.old).offers link frag run.old.core LinkReceiveFault.Memory) }
 {
     law_sound(run);
     match found {
@@ -143,7 +151,7 @@ fn hand_out<S: PutSide + TakeSide + Drop>(
             Ok(())
         }
         Ok(LinkFront::Onward(frag, to, circuit)) => {
-            if to != n && to < run.rings.len() {
+            if to != n && to < run.rings.count() {
                 let _ = cross(run, n, to, &frag, circuit);
             }
             Ok(())
@@ -159,31 +167,31 @@ fn hand_out<S: PutSide + TakeSide + Drop>(
 }
 
 /// One forward.
-pub(crate) fn forward<S: PutSide + TakeSide + Drop>(
+pub(crate) fn forward<S: CoreSides>(
     run: &mut RunningCore<S>,
     link: LinkId,
 ) -> Result<(), AllocError>
-    ensures forwards { OnOk result (Forwards (ways S.puts S.takes S.front) link (run_of run.old) (run_of run.new)) }
-    ensures left { OnErr result (LeavesMessage (ways S.puts S.takes S.front) link (run_of run.old) (run_of run.new)) }
+    ensures forwards { OnOk result (Forwards (ways S.puts S.takes S.front) link (run_by S.states run.old) (run_by S.states run.new)) }
+    ensures left { OnErr result (LeavesMessage (ways S.puts S.takes S.front) link (run_by S.states run.old) (run_by S.states run.new)) }
 {
     law_sound(run);
     match lent_link_side(run, link) {
         None => Ok(()),
         Some(n) => {
-            let found = run.core.look(link, &mut run.rings[n]);
+            let found = over::look(&mut run.core, &mut run.rings, n, link);
             hand_out(run, n, link, found)
         }
     }
 }
 
 /// A forward for each link.
-pub(crate) fn forward_all<S: PutSide + TakeSide + Drop>(
+pub(crate) fn forward_all<S: CoreSides>(
     run: &mut RunningCore<S>,
     links: &[LinkId],
 ) -> Result<(), AllocError>
-    ensures forwards { OnOk result (ForEach links.now (Forwards (ways S.puts S.takes S.front)) (run_of run.old) (run_of run.new)) }
+    ensures forwards { OnOk result (ForEach links.now (Forwards (ways S.puts S.takes S.front)) (run_by S.states run.old) (run_by S.states run.new)) }
     ensures stops { OnErr result (StopsAmong links.now (Forwards (ways S.puts S.takes S.front)) (LeavesMessage (ways S.puts S.takes S.front))
-        (run_of run.old) (run_of run.new)) }
+        (run_by S.states run.old) (run_by S.states run.new)) }
 {
     for k in 0..links.len() {
         forward(run, links[k])?;
@@ -194,21 +202,21 @@ pub(crate) fn forward_all<S: PutSide + TakeSide + Drop>(
 // ---- monitor writes
 
 // One monitor write.
-pub(crate) fn say<S: PutSide + TakeSide + Drop>(run: &mut RunningCore<S>, link: LinkId)
-    ensures says { Says (ways S.puts S.takes S.front) link (run_of run.old) (run_of run.new) }
+pub(crate) fn say<S: CoreSides>(run: &mut RunningCore<S>, link: LinkId)
+    ensures says { Says (ways S.puts S.takes S.front) link (run_by S.states run.old) (run_by S.states run.new) }
 {
     law_sound(run);
     match lent_link_side(run, link) {
         None => (),
         Some(n) => {
-            let _ = run.core.monitor_write(link, &mut run.rings[n]);
+            let _ = over::say(&mut run.core, &mut run.rings, n, link);
         }
     }
 }
 
 /// A monitor write for each link.
-pub(crate) fn say_all<S: PutSide + TakeSide + Drop>(run: &mut RunningCore<S>, links: &[LinkId])
-    ensures says { ForEach links.now (Says (ways S.puts S.takes S.front)) (run_of run.old) (run_of run.new) }
+pub(crate) fn say_all<S: CoreSides>(run: &mut RunningCore<S>, links: &[LinkId])
+    ensures says { ForEach links.now (Says (ways S.puts S.takes S.front)) (run_by S.states run.old) (run_by S.states run.new) }
 {
     for k in 0..links.len() {
         say(run, links[k]);
@@ -218,21 +226,21 @@ pub(crate) fn say_all<S: PutSide + TakeSide + Drop>(run: &mut RunningCore<S>, li
 // ---- acknowledgements
 
 // One acknowledgement.
-pub(crate) fn tell<S: PutSide + TakeSide + Drop>(run: &mut RunningCore<S>, link: LinkId)
-    ensures tells { Tells (ways S.puts S.takes S.front) link (run_of run.old) (run_of run.new) }
+pub(crate) fn tell<S: CoreSides>(run: &mut RunningCore<S>, link: LinkId)
+    ensures tells { Tells (ways S.puts S.takes S.front) link (run_by S.states run.old) (run_by S.states run.new) }
 {
     law_sound(run);
     match lent_link_side(run, link) {
         None => (),
         Some(n) => {
-            let _ = run.core.monitor_ack(link, &mut run.rings[n]);
+            let _ = over::tell(&run.core, &mut run.rings, n, link);
         }
     }
 }
 
 /// An acknowledgement for each link.
-pub(crate) fn tell_all<S: PutSide + TakeSide + Drop>(run: &mut RunningCore<S>, links: &[LinkId])
-    ensures tells { ForEach links.now (Tells (ways S.puts S.takes S.front)) (run_of run.old) (run_of run.new) }
+pub(crate) fn tell_all<S: CoreSides>(run: &mut RunningCore<S>, links: &[LinkId])
+    ensures tells { ForEach links.now (Tells (ways S.puts S.takes S.front)) (run_by S.states run.old) (run_by S.states run.new) }
 {
     for k in 0..links.len() {
         tell(run, links[k]);

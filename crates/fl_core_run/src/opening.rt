@@ -1,25 +1,25 @@
 //! A job that opens a circuit.
 
 ghost use Rattle.std.specs.Prelude.{◌≡◌, ◌<◌, length, IfOk, OnOk, OnErr};
-ghost use Rattle.fl_core_run.specs.Run.{ways, run_of, AtProgress};
+ghost use Rattle.fl_core_run.specs.Run.{ways, run_by, AtProgress};
 ghost use Rattle.fl_core_run.specs.EndProgress.{advanced, with_refusal};
 ghost use Rattle.fl_core_run.specs.Inside.{HasLeft, OfProgress};
 ghost use Rattle.fl_core_run.specs.LogEntries.{IsCopyOf, NotesOpened};
 ghost use Rattle.fl_core_run.specs.Steps.{lacks_to_open, may_ask, OpensIf};
 ghost use Rattle.fl_core_run.specs.Wants.{BeginsCircuit};
 
+use crate::core_sides::CoreSides;
 use crate::ends::advance;
 use crate::running::{RunningCore, law_sound};
 use fl_base::{EndId, MAX_BINDINGS, Side};
 use fl_compile::Program;
 use fl_core::{BoardFault, OpenFault, OpenRequest};
-use fl_link::{PutSide, TakeSide};
 use fl_monitor::MonitorFault;
 use std::alloc::AllocError;
 
 // Whether a circuit can be asked for.
-fn may_ask<S>(run: &RunningCore<S>, request: &OpenRequest) -> bool
-    ensures may { result ≡ may_ask (run_of run.now) request.now }
+fn may_ask<S: CoreSides>(run: &RunningCore<S>, request: &OpenRequest) -> bool
+    ensures may { result ≡ may_ask (run_by S.states run.now) request.now }
 {
     let client = EndId {
         binding: request.opening.binding as usize,
@@ -33,7 +33,7 @@ fn may_ask<S>(run: &RunningCore<S>, request: &OpenRequest) -> bool
 }
 
 // A copy of the program at a place.
-fn copy<S>(run: &RunningCore<S>, n: usize) -> Result<Program, AllocError>
+fn copy<S: CoreSides>(run: &RunningCore<S>, n: usize) -> Result<Program, AllocError>
     requires { n < length run.now.programs.items }
     ensures copy { IfOk result (λ p. IsCopyOf run.now.programs.items n p) }
 {
@@ -60,9 +60,10 @@ fn is_memory(answer: Result<usize, OpenFault>) -> bool
 }
 
 // Notes that an opening is refused, and with it its job is done.
-fn refuse<S>(run: &mut RunningCore<S>, progress: Option<usize>, number: u32)
+fn refuse<S: CoreSides>(run: &mut RunningCore<S>, progress: Option<usize>, number: u32)
     requires left { HasLeft run.old.progresses.items progress }
-    ensures refused { OfProgress progress (run_of run.old) (λ name. AtProgress name (λ d. advanced (with_refusal number d)) (run_of run.old) (run_of run.new)) }
+    ensures refused { OfProgress progress (run_by S.states run.old)
+        (λ name. AtProgress name (λ d. advanced (with_refusal number d)) (run_by S.states run.old) (run_by S.states run.new)) }
 {
     match progress {
         None => (),
@@ -75,9 +76,13 @@ fn refuse<S>(run: &mut RunningCore<S>, progress: Option<usize>, number: u32)
 }
 
 // Notes what came of asking.
-fn note<S>(run: &mut RunningCore<S>, progress: Option<usize>, answer: Result<usize, OpenFault>)
+fn note<S: CoreSides>(
+    run: &mut RunningCore<S>,
+    progress: Option<usize>,
+    answer: Result<usize, OpenFault>,
+)
     requires left { HasLeft run.old.progresses.items progress }
-    ensures notes { OfProgress progress (run_of run.old) (λ name. NotesOpened name answer (run_of run.old) (run_of run.new)) }
+    ensures notes { OfProgress progress (run_by S.states run.old) (λ name. NotesOpened name answer (run_by S.states run.old) (run_by S.states run.new)) }
 {
     match answer {
         Ok(_) => advance(run, progress),
@@ -91,16 +96,17 @@ fn note<S>(run: &mut RunningCore<S>, progress: Option<usize>, answer: Result<usi
 ///
 /// # Errors
 /// Out of memory, only where the circuit would be begun. Nothing has happened then.
-pub(crate) fn open<S: PutSide + TakeSide + Drop>(
+pub(crate) fn open<S: CoreSides>(
     run: &mut RunningCore<S>,
     progress: Option<usize>,
     request: &OpenRequest,
 ) -> Result<(), AllocError>
     requires left { HasLeft run.old.progresses.items progress }
-    ensures opens { OnOk result (OfProgress progress (run_of run.old) (λ name. OpensIf (ways S.puts S.takes S.front) (may_ask (run_of run.old) request.now) name
-        request.now (run_of run.old) (run_of run.new))) }
-    ensures kept { OnErr result (run_of run.new ≡ run_of run.old) }
-    ensures begins { OnErr result (BeginsCircuit (run_of run.old) request.now) }
+    ensures opens { OnOk result (OfProgress progress (run_by S.states run.old)
+        (λ name. OpensIf (ways S.puts S.takes S.front) (may_ask (run_by S.states run.old) request.now) name
+        request.now (run_by S.states run.old) (run_by S.states run.new))) }
+    ensures kept { OnErr result (run_by S.states run.new ≡ run_by S.states run.old) }
+    ensures begins { OnErr result (BeginsCircuit (run_by S.states run.old) request.now) }
 {
     law_sound(run);
     if !may_ask(run, request) {

@@ -1,9 +1,10 @@
 //! What a core knows of openings, and tells of them.
 
 ghost use Rattle.std.specs.Prelude.{◌≡◌, ◌<◌, length};
-ghost use Rattle.fl_core_run.specs.Run.{run_of};
+ghost use Rattle.fl_core_run.specs.Run.{run_by};
 ghost use Rattle.fl_core_run.specs.OpeningStatus.{refusal_at, MayUse, Exchanges, ExchangesAt, AreWords, stock, ExchangesAll, SaidNothing};
 
+use crate::core_sides::CoreSides;
 use crate::running::RunningCore;
 use fl_base::EndId;
 use fl_cores_table::EndSeat;
@@ -22,8 +23,8 @@ pub enum OpeningStatus {
 }
 
 // The number with which an end's opening was refused, by its end's progress, or 0.
-fn refusal_at<S>(run: &RunningCore<S>, name: EndId) -> u32
-    ensures refusal { result ≡ refusal_at (run_of run.now) name }
+fn refusal_at<S: CoreSides>(run: &RunningCore<S>, name: EndId) -> u32
+    ensures refusal { result ≡ refusal_at (run_by S.states run.now) name }
 {
     match run.progress_of(name) {
         None => 0,
@@ -32,14 +33,14 @@ fn refusal_at<S>(run: &RunningCore<S>, name: EndId) -> u32
 }
 
 // Tells a refusal that is to be told, or learns of one where the end isn't there.
-fn exchange<S>(
+fn exchange<S: CoreSides>(
     run: &RunningCore<S>,
     name: EndId,
     word: OpeningStatus,
     seat: &mut EndSeat,
 ) -> OpeningStatus
     requires may { MayUse word seat.old.knows }
-    ensures exchanges { Exchanges (run_of run.now) name word seat.old result seat.new }
+    ensures exchanges { Exchanges (run_by S.states run.now) name word seat.old result seat.new }
     ensures quiet { SaidNothing seat.old seat.new }
 {
     match word {
@@ -67,7 +68,7 @@ fn exchange<S>(
 }
 
 // Does so for the end at a place of the list.
-fn exchange_at<S>(
+fn exchange_at<S: CoreSides>(
     run: &RunningCore<S>,
     ends: &[EndId],
     k: usize,
@@ -77,7 +78,7 @@ fn exchange_at<S>(
     requires end { k < length ends.now }
     requires word { k < length words.old }
     requires may { AreWords words.old seat.old.knows }
-    ensures exchanges { ExchangesAt (run_of run.now) ends.now k (stock words.old seat.old) (stock words.new seat.new) }
+    ensures exchanges { ExchangesAt (run_by S.states run.now) ends.now k (stock words.old seat.old) (stock words.new seat.new) }
     ensures as_many { length words.new ≡ length words.old }
     ensures may { AreWords words.new seat.new.knows }
     ensures quiet { SaidNothing seat.old seat.new }
@@ -87,7 +88,7 @@ fn exchange_at<S>(
 
 /// For each end tells a refusal that is to be told, and learns of one where the end isn't there.
 #[tactic(auto, using(crate::proofs::Stock::quiet, crate::proofs::Stock::quiet_then))]
-pub(crate) fn exchange_all<S>(
+pub(crate) fn exchange_all<S: CoreSides>(
     run: &RunningCore<S>,
     ends: &[EndId],
     words: &mut [OpeningStatus],
@@ -95,7 +96,7 @@ pub(crate) fn exchange_all<S>(
 )
     requires as_many { length words.old ≡ length ends.now }
     requires may { AreWords words.old seat.old.knows }
-    ensures exchanges { ExchangesAll (run_of run.now) ends.now (stock words.old seat.old) (stock words.new seat.new) }
+    ensures exchanges { ExchangesAll (run_by S.states run.now) ends.now (stock words.old seat.old) (stock words.new seat.new) }
     ensures as_many { length words.new ≡ length ends.now }
     ensures may { AreWords words.new seat.new.knows }
     ensures quiet { SaidNothing seat.old seat.new }

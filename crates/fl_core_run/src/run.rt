@@ -1,12 +1,13 @@
 //! A core's whole run.
 
 ghost use Rattle.std.specs.Prelude.{◌≡◌, ◌+◌, ◌<◌, ◌≤◌, length, OnOk, IfOk, OnErr};
-ghost use Rattle.fl_core_run.specs.Run.{ways, run_of};
+ghost use Rattle.fl_core_run.specs.Run.{ways, run_by};
 ghost use Rattle.fl_core_run.specs.OpeningStatus.{AreWords, ExchangesAll, SaidNothing};
 ghost use Rattle.fl_core_run.specs.Finished.{is_finished};
 ghost use Rattle.fl_core_run.specs.Ran.{run_seat_of, task, moment, Counted, SomeTurns, HaveEnded, CoreRan};
 ghost use Rattle.fl_core_run.specs.Stops.{StopsInTurn};
 
+use crate::core_sides::CoreSides;
 use crate::fault::CoreRunFault;
 use crate::finish::is_finished;
 use crate::gate::Gate;
@@ -17,7 +18,6 @@ use crate::run_seat::RunSeat;
 use crate::running::RunningCore;
 use fl_core::CoreJob;
 use fl_cores_table::STOP;
-use fl_link::{PutSide, TakeSide};
 use std::alloc::AllocError;
 use std::sync::Wait;
 
@@ -41,11 +41,11 @@ pub struct Part {
 }
 
 // Whether nothing is left to do, once refusals are told and learned.
-fn take_stock<S>(run: &RunningCore<S>, plan: &TurnPlan, run_seat: &mut RunSeat) -> bool
+fn take_stock<S: CoreSides>(run: &RunningCore<S>, plan: &TurnPlan, run_seat: &mut RunSeat) -> bool
     requires as_many { length run_seat.old.words.items ≡ length plan.now.ends.items }
     requires may { AreWords run_seat.old.words.items run_seat.old.seat.knows }
-    ensures finished { result ≡ is_finished (run_of run.now) plan.now.ends.items run_seat.new.words.items }
-    ensures exchanges { ExchangesAll (run_of run.now) plan.now.ends.items (run_seat_of run_seat.old) (run_seat_of run_seat.new) }
+    ensures finished { result ≡ is_finished (run_by S.states run.now) plan.now.ends.items run_seat.new.words.items }
+    ensures exchanges { ExchangesAll (run_by S.states run.now) plan.now.ends.items (run_seat_of run_seat.old) (run_seat_of run_seat.new) }
     ensures seat { SaidNothing run_seat.old.seat run_seat.new.seat }
     ensures as_many { length run_seat.new.words.items ≡ length plan.now.ends.items }
     ensures may { AreWords run_seat.new.words.items run_seat.new.seat.knows }
@@ -56,7 +56,7 @@ fn take_stock<S>(run: &RunningCore<S>, plan: &TurnPlan, run_seat: &mut RunSeat) 
 
 // Turns that are counted: until nothing is left to do, or the limit is reached, or another core stopped.
 #[tactic(auto, using(crate::proofs::Stock::seen_words, crate::proofs::Stock::quiet_then))]
-fn counted_turns<S: PutSide + TakeSide + Drop, G: Gate>(
+fn counted_turns<S: CoreSides, G: Gate>(
     run: &mut RunningCore<S>,
     plan: &TurnPlan,
     jobs: &[CoreJob],
@@ -67,8 +67,8 @@ fn counted_turns<S: PutSide + TakeSide + Drop, G: Gate>(
     requires as_many { length run_seat.old.words.items ≡ length plan.now.ends.items }
     requires may { AreWords run_seat.old.words.items run_seat.old.seat.knows }
     ensures counted { IfOk result (λ part. Counted (ways S.puts S.takes S.front) (task plan.now jobs.now limit)
-        (moment (run_of run.old) (run_seat_of run_seat.old)) part (moment (run_of run.new) (run_seat_of run_seat.new))) }
-    ensures part { OnErr result (StopsInTurn (ways S.puts S.takes S.front) plan.now jobs.now (run_of run.old) (run_of run.new)) }
+        (moment (run_by S.states run.old) (run_seat_of run_seat.old)) part (moment (run_by S.states run.new) (run_seat_of run_seat.new))) }
+    ensures part { OnErr result (StopsInTurn (ways S.puts S.takes S.front) plan.now jobs.now (run_by S.states run.old) (run_by S.states run.new)) }
     ensures seat { SaidNothing run_seat.old.seat run_seat.new.seat }
 {
     let core = run.core.monitor().circuits().core();
@@ -103,7 +103,7 @@ fn counted_turns<S: PutSide + TakeSide + Drop, G: Gate>(
 
 // Turns that aren't counted: until all cores have ended, or one stopped.
 #[tactic(auto, using(crate::proofs::Idle::idle))]
-fn idle_turns<R: Wait, S: PutSide + TakeSide + Drop, G: Gate>(
+fn idle_turns<R: Wait, S: CoreSides, G: Gate>(
     rt: &R,
     run: &mut RunningCore<S>,
     plan: &TurnPlan,
@@ -111,8 +111,8 @@ fn idle_turns<R: Wait, S: PutSide + TakeSide + Drop, G: Gate>(
     run_seat: &mut RunSeat,
     gate: &G,
 ) -> Result<(), AllocError>
-    ensures turned { OnOk result (SomeTurns (ways S.puts S.takes S.front) plan.now jobs.now (run_of run.old) (run_of run.new)) }
-    ensures part { OnErr result (StopsInTurn (ways S.puts S.takes S.front) plan.now jobs.now (run_of run.old) (run_of run.new)) }
+    ensures turned { OnOk result (SomeTurns (ways S.puts S.takes S.front) plan.now jobs.now (run_by S.states run.old) (run_by S.states run.new)) }
+    ensures part { OnErr result (StopsInTurn (ways S.puts S.takes S.front) plan.now jobs.now (run_by S.states run.old) (run_by S.states run.new)) }
     ensures others { OnOk result (HaveEnded plan.now.cores run_seat.new.seat.knows.seen) }
     ensures seat { SaidNothing run_seat.old.seat run_seat.new.seat }
     ensures stored { run_seat.new.seat.knows.stored ≡ run_seat.old.seat.knows.stored }
@@ -132,7 +132,7 @@ fn idle_turns<R: Wait, S: PutSide + TakeSide + Drop, G: Gate>(
 }
 
 // The whole run, but for what is told where memory is refused.
-fn run_through<R: Wait, S: PutSide + TakeSide + Drop, G: Gate>(
+fn run_through<R: Wait, S: CoreSides, G: Gate>(
     rt: &R,
     run: &mut RunningCore<S>,
     plan: &TurnPlan,
@@ -145,8 +145,8 @@ fn run_through<R: Wait, S: PutSide + TakeSide + Drop, G: Gate>(
     requires may { AreWords run_seat.old.words.items run_seat.old.seat.knows }
     requires once { run_seat.old.seat.knows.finished < length run_seat.old.seat.knows.cores }
     ensures ran { IfOk result (λ part. CoreRan (ways S.puts S.takes S.front) (task plan.now jobs.now limit)
-        (moment (run_of run.old) (run_seat_of run_seat.old)) part (moment (run_of run.new) (run_seat_of run_seat.new))) }
-    ensures part { OnErr result (StopsInTurn (ways S.puts S.takes S.front) plan.now jobs.now (run_of run.old) (run_of run.new)) }
+        (moment (run_by S.states run.old) (run_seat_of run_seat.old)) part (moment (run_by S.states run.new) (run_seat_of run_seat.new))) }
+    ensures part { OnErr result (StopsInTurn (ways S.puts S.takes S.front) plan.now jobs.now (run_by S.states run.old) (run_by S.states run.new)) }
     ensures stopped { run_seat.new.seat.knows.stopped ≡ run_seat.old.seat.knows.stopped }
     ensures seats { run_seat.new.seat.knows.seats ≡ run_seat.old.seat.knows.seats }
 {
@@ -170,7 +170,7 @@ fn run_through<R: Wait, S: PutSide + TakeSide + Drop, G: Gate>(
 ///
 /// # Errors
 /// Out of memory. That it stops is told then; it took so many whole turns, and a part of one more.
-pub fn core_run<R: Wait, S: PutSide + TakeSide + Drop, G: Gate>(
+pub fn core_run<R: Wait, S: CoreSides, G: Gate>(
     rt: &R,
     run: &mut RunningCore<S>,
     plan: &TurnPlan,
@@ -184,8 +184,8 @@ pub fn core_run<R: Wait, S: PutSide + TakeSide + Drop, G: Gate>(
     requires silent { (run_seat.old.seat.knows.finished < length run_seat.old.seat.knows.cores)
         × (run_seat.old.seat.knows.stopped < run_seat.old.seat.knows.seats) }
     ensures ran { IfOk result (λ part. CoreRan (ways S.puts S.takes S.front) (task plan.now jobs.now limit)
-        (moment (run_of run.old) (run_seat_of run_seat.old)) part (moment (run_of run.new) (run_seat_of run_seat.new))) }
-    ensures part { OnErr result (StopsInTurn (ways S.puts S.takes S.front) plan.now jobs.now (run_of run.old) (run_of run.new)) }
+        (moment (run_by S.states run.old) (run_seat_of run_seat.old)) part (moment (run_by S.states run.new) (run_seat_of run_seat.new))) }
+    ensures part { OnErr result (StopsInTurn (ways S.puts S.takes S.front) plan.now jobs.now (run_by S.states run.old) (run_by S.states run.new)) }
     ensures told { OnErr result (run_seat.new.seat.knows.stopped ≡ run_seat.old.seat.knows.stopped + 1) }
 {
     match run_through(rt, run, plan, jobs, limit, run_seat, gate) {

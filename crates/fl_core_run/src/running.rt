@@ -1,7 +1,7 @@
 //! A core that runs.
 
 ghost use Rattle.std.specs.Prelude.{◌≡◌, ◌<◌, length, Some, IfSome, OnOk, OnErr};
-ghost use Rattle.fl_core_run.specs.Run.{ways, run_of};
+ghost use Rattle.fl_core_run.specs.Run.{ways, run_by};
 ghost use Rattle.fl_core_run.specs.LogEntries.{IsSound, IsSoundAt};
 ghost use Rattle.fl_core_run.specs.EndProgress.{progress_place};
 ghost use Rattle.fl_core_run.specs.Inside.{OfPlace};
@@ -9,16 +9,18 @@ ghost use Rattle.fl_core_run.specs.Turn.{OneTurn};
 ghost use Rattle.fl_core_run.specs.Stops.{PartOfTurn};
 ghost use Rattle.fl_core_run.specs.Accepted.{count_waiting};
 
+use crate::core_sides::CoreSides;
 use crate::dispatchers::turn_all;
 use crate::end_progress::{EndProgress, find};
 use crate::ends::{ack_all, serve_all};
 use crate::links::{forward_all, say_all, tell_all};
 use crate::plan::TurnPlan;
 use fl_base::EndId;
+use fl_compact_calls::NumberCall;
 use fl_compile::Program;
 use fl_core::{Core, CoreJob};
 use fl_hop::law_never_shared;
-use fl_link::{PutSide, QueueLink, TakeSide};
+use fl_link::QueueLink;
 use fl_nameserv::Names;
 use std::alloc::{AllocError, Global};
 
@@ -28,7 +30,7 @@ pub struct RunningCore<S> {
     pub alloc: Global,
     pub core: Core,
     /// Its sides of rings, by the numbers by which the core names them.
-    pub rings: Vec<S>,
+    pub rings: S,
     /// Its local queues, likewise.
     pub queues: Vec<QueueLink>,
     /// The end's progress of each end, by name: that of the client of binding b at 2 b, that of its server at 2 b + 1.
@@ -37,12 +39,14 @@ pub struct RunningCore<S> {
     pub names: Names,
     /// The programs of the services' interfaces, by their places.
     pub programs: Vec<Program>,
+    /// The memory in which calls of one number are made. No clause speaks of it.
+    pub spare: NumberCall,
     /// How many turns on end found nothing to do: after those the core pauses. No clause speaks of it.
     pub idle: u32,
 }
 
 // What is known of its core at any time. It does nothing.
-pub(crate) fn law_sound<S>(run: &RunningCore<S>)
+pub(crate) fn law_sound<S: CoreSides>(run: &RunningCore<S>)
     ensures sound { IsSound run.now.core }
 {
     run.core.law_sound();
@@ -50,14 +54,14 @@ pub(crate) fn law_sound<S>(run: &RunningCore<S>)
 }
 
 // What is known of the end at a place at any time. It does nothing.
-pub(crate) fn law_sound_at<S>(run: &RunningCore<S>, e: usize)
+pub(crate) fn law_sound_at<S: CoreSides>(run: &RunningCore<S>, e: usize)
     requires there { e < length run.now.core.board.seats }
-    ensures sound { OfPlace (Some e) (run_of run.now) (λ name. IsSoundAt (run_of run.now) name) }
+    ensures sound { OfPlace (Some e) (run_by S.states run.now) (λ name. IsSoundAt (run_by S.states run.now) name) }
 {
     run.core.board().law_end_sound(e);
 }
 
-impl<S> RunningCore<S> {
+impl<S: CoreSides> RunningCore<S> {
     // Where the progress of an end is, if it has one. Nothing is searched.
     #[inline(always)]
     pub(crate) fn progress_of(&self, name: EndId) -> Option<usize>
@@ -69,7 +73,7 @@ impl<S> RunningCore<S> {
 
     /// How many replies wait at an end; none where it isn't at this core.
     pub fn replies_waiting(&self, name: EndId) -> usize
-        ensures waiting { result ≡ count_waiting (run_of self.now) name }
+        ensures waiting { result ≡ count_waiting (run_by S.states self.now) name }
     {
         match self.core.place(name) {
             None => 0,
@@ -78,7 +82,7 @@ impl<S> RunningCore<S> {
     }
 }
 
-impl<S: PutSide + TakeSide + Drop> RunningCore<S> {
+impl<S: CoreSides> RunningCore<S> {
     /// One turn: a forward for each link, a monitor write for each link, for each end its next job where that can be done and one write, a turn for
     /// each dispatcher, an acknowledgement for each link and each end of a ring. It takes no memory but where a call is made or becomes whole, a circuit is
     /// begun, or a monitors' message is heard at which something is said.
@@ -86,8 +90,8 @@ impl<S: PutSide + TakeSide + Drop> RunningCore<S> {
     /// # Errors
     /// Out of memory, only where one of these would be done. The turn wasn't finished then: what of it was done is told.
     pub fn turn(&mut self, plan: &TurnPlan, jobs: &[CoreJob]) -> Result<(), AllocError>
-        ensures turn { OnOk result (OneTurn (ways S.puts S.takes S.front) plan.now jobs.now (run_of self.old) (run_of self.new)) }
-        ensures part { OnErr result (PartOfTurn (ways S.puts S.takes S.front) plan.now jobs.now (run_of self.old) (run_of self.new)) }
+        ensures turn { OnOk result (OneTurn (ways S.puts S.takes S.front) plan.now jobs.now (run_by S.states self.old) (run_by S.states self.new)) }
+        ensures part { OnErr result (PartOfTurn (ways S.puts S.takes S.front) plan.now jobs.now (run_by S.states self.old) (run_by S.states self.new)) }
     {
         self.idle = self.idle.saturating_add(1);
         forward_all(self, &plan.links)?;

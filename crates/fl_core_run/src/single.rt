@@ -1,11 +1,12 @@
 //! What a turn is made of, one by one; and a core over other sides.
 
 ghost use Rattle.std.specs.Prelude.{◌≡◌, OnOk, OnErr};
-ghost use Rattle.fl_core_run.specs.Run.{ways, run_of, over, next_job, lent_link_side, lent_post};
+ghost use Rattle.fl_core_run.specs.Run.{ways, run_by, run_of, over, next_job, lent_link_side, lent_post};
 ghost use Rattle.fl_core_run.specs.Single.{TellsDue};
 ghost use Rattle.fl_core_run.specs.Steps.{Forwards, Says, Tells, Tries, WritesFrom, TakesTurn, Acknowledges};
 ghost use Rattle.fl_core_run.specs.Stops.{LeavesMessage, LeavesJob, LeavesTurn};
 
+use crate::core_sides::CoreSides;
 use crate::dispatchers::{awaits, turn};
 use crate::ends::{ack, try_job, write};
 use crate::lent::{LentTakeEnd, lent_due, lent_link_side};
@@ -13,12 +14,11 @@ use crate::links::{forward, say, tell};
 use crate::running::RunningCore;
 use fl_base::{EndId, LinkId};
 use fl_core::CoreJob;
-use fl_link::{PutSide, TakeSide};
 use std::alloc::AllocError;
 
-impl<S> RunningCore<S> {
+impl<S> RunningCore<Vec<S>> {
     /// The core over other sides, and those that it had.
-    pub fn with_rings<T>(self, rings: Vec<T>) -> (RunningCore<T>, Vec<S>)
+    pub fn with_rings<T>(self, rings: Vec<T>) -> (RunningCore<Vec<T>>, Vec<S>)
         ensures over { run_of result.0 ≡ over rings.items (run_of self) }
         ensures had { result.1.items ≡ self.rings.items }
     {
@@ -30,16 +30,17 @@ impl<S> RunningCore<S> {
             progresses: self.progresses,
             names: self.names,
             programs: self.programs,
+            spare: self.spare,
             idle: self.idle,
         };
         (core, self.rings)
     }
 }
 
-impl<S: PutSide + TakeSide + Drop> RunningCore<S> {
+impl<S: CoreSides> RunningCore<S> {
     /// The side of a link, where the core has it.
     pub fn side_of(&self, link: LinkId) -> Option<usize>
-        ensures side { result ≡ lent_link_side (run_of self.now) link }
+        ensures side { result ≡ lent_link_side (run_by S.states self.now) link }
     {
         lent_link_side(self, link)
     }
@@ -47,7 +48,7 @@ impl<S: PutSide + TakeSide + Drop> RunningCore<S> {
     /// The end at which a dispatcher's turn looks, and where that takes; none where no end is due or it is to
     /// wait.
     pub fn due(&self, jobs: &[CoreJob], dispatcher: usize) -> Option<LentTakeEnd>
-        ensures due { TellsDue jobs.now (run_of self.now) dispatcher result }
+        ensures due { TellsDue jobs.now (run_by S.states self.now) dispatcher result }
     {
         let Some(at) = lent_due(self, dispatcher) else {
             return None;
@@ -66,16 +67,16 @@ impl<S: PutSide + TakeSide + Drop> RunningCore<S> {
     /// Out of memory, only where a monitors' message would be heard and something said. It is left there.
     pub fn forward(&mut self, link: LinkId) -> Result<(), AllocError>
         ensures forwards { OnOk result (Forwards (ways S.puts S.takes S.front) link
-            (run_of self.old) (run_of self.new)) }
+            (run_by S.states self.old) (run_by S.states self.new)) }
         ensures left { OnErr result (LeavesMessage (ways S.puts S.takes S.front) link
-            (run_of self.old) (run_of self.new)) }
+            (run_by S.states self.old) (run_by S.states self.new)) }
     {
         forward(self, link)
     }
 
     /// A monitor write for a link.
     pub fn say(&mut self, link: LinkId)
-        ensures says { Says (ways S.puts S.takes S.front) link (run_of self.old) (run_of self.new) }
+        ensures says { Says (ways S.puts S.takes S.front) link (run_by S.states self.old) (run_by S.states self.new) }
     {
         say(self, link);
     }
@@ -86,9 +87,9 @@ impl<S: PutSide + TakeSide + Drop> RunningCore<S> {
     /// Out of memory, only where the job would be done. Nothing has happened then.
     pub fn try_job(&mut self, jobs: &[CoreJob], name: EndId) -> Result<(), AllocError>
         ensures tries { OnOk result (Tries (ways S.puts S.takes S.front) name
-            (next_job jobs.now (run_of self.old) name) (run_of self.old) (run_of self.new)) }
-        ensures kept { OnErr result (run_of self.new ≡ run_of self.old) }
-        ensures left { OnErr result (LeavesJob jobs.now name (run_of self.old) (run_of self.new)) }
+            (next_job jobs.now (run_by S.states self.old) name) (run_by S.states self.old) (run_by S.states self.new)) }
+        ensures kept { OnErr result (run_by S.states self.new ≡ run_by S.states self.old) }
+        ensures left { OnErr result (LeavesJob jobs.now name (run_by S.states self.old) (run_by S.states self.new)) }
     {
         try_job(self, jobs, name)?;
         Ok(())
@@ -96,8 +97,8 @@ impl<S: PutSide + TakeSide + Drop> RunningCore<S> {
 
     /// A write of an end.
     pub fn write(&mut self, name: EndId)
-        ensures writes { WritesFrom (ways S.puts S.takes S.front) name (lent_post (run_of self.old) name)
-            (run_of self.old) (run_of self.new) }
+        ensures writes { WritesFrom (ways S.puts S.takes S.front) name (lent_post (run_by S.states self.old) name)
+            (run_by S.states self.old) (run_by S.states self.new) }
     {
         let place = self.core.place(name);
         write(self, place);
@@ -109,23 +110,23 @@ impl<S: PutSide + TakeSide + Drop> RunningCore<S> {
     /// Out of memory, only where a call is or would be handled. The end that is due left the fragment that it saw, or its progress doesn't have the call.
     pub fn turn_of(&mut self, jobs: &[CoreJob], dispatcher: usize) -> Result<(), AllocError>
         ensures turns { OnOk result (TakesTurn (ways S.puts S.takes S.front) jobs.now dispatcher
-            (run_of self.old) (run_of self.new)) }
+            (run_by S.states self.old) (run_by S.states self.new)) }
         ensures left { OnErr result (LeavesTurn (ways S.puts S.takes S.front) jobs.now dispatcher
-            (run_of self.old) (run_of self.new)) }
+            (run_by S.states self.old) (run_by S.states self.new)) }
     {
         turn(self, jobs, dispatcher)
     }
 
     /// An acknowledgement for a link.
     pub fn tell(&mut self, link: LinkId)
-        ensures tells { Tells (ways S.puts S.takes S.front) link (run_of self.old) (run_of self.new) }
+        ensures tells { Tells (ways S.puts S.takes S.front) link (run_by S.states self.old) (run_by S.states self.new) }
     {
         tell(self, link);
     }
 
     /// An acknowledgement of an end.
     pub fn ack(&mut self, name: EndId)
-        ensures acks { Acknowledges (ways S.puts S.takes S.front) name (run_of self.old) (run_of self.new) }
+        ensures acks { Acknowledges (ways S.puts S.takes S.front) name (run_by S.states self.old) (run_by S.states self.new) }
     {
         ack(self, name);
     }

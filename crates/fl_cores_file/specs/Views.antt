@@ -24,7 +24,7 @@ abbrev pub request_of : RustRequest → TheCircuitRequest
 request_of w = record { client = id_of w.client; interface = w.interface; service = w.service.now; route = w.route.items }
 
 abbrev pub job_of : RustJob → Job
-job_of (job.Open request) = opens (request_of request)
+job_of (job.Open request) = opens (request_of request.value)
 job_of (job.Reply e m answer) = replies e m.0 answer.0
 job_of (job.Call e c) = calls e (call_of c)
 

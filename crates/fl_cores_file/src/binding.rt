@@ -170,12 +170,14 @@ impl<'a> Draft<'a> {
         }
         let route = route.to_vec(self.alloc)?;
         self.put_binding(true, want.interface)?;
-        self.put_job(Job::Open(CircuitRequest {
+        let request = CircuitRequest {
             client: want.client,
             interface: want.interface,
             service: want.service,
             route,
-        }))
+        };
+        let request = Box::new(self.alloc, request)?;
+        self.put_job(Job::Open(request))
     }
 
     fn bind_by(&mut self, want: DraftRequest<'a>, back_end: BackEnd) -> Result<(), CoresLineFault>

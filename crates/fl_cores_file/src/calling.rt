@@ -1,6 +1,6 @@
 //! Lines that hand in calls and set reply rules.
 
-ghost use Rattle.std.specs.Prelude.{◌≡◌, ◌<◌, IfOk, map, vec_len};
+ghost use Rattle.std.specs.Prelude.{◌≡◌, ◌<◌, map, vec_len};
 ghost use Rattle.std.specs.Vec.{vec_capacity};
 ghost use Rattle.fl_model.specs.Given.{changed_at};
 ghost use Rattle.fl_value_data.specs.Value.{call_of};
@@ -14,9 +14,9 @@ use crate::draft::{Draft, DraftBinding, DraftInterface, EndUse};
 use crate::job::Job;
 use crate::stop::CoresLineFault;
 use fl_base::{EndId, MsgNo, Side, faults};
+use fl_compact_calls::CompactCall;
 use fl_interface::same_args;
-use fl_value_data::{Call, Value, fits};
-use std::alloc::{AllocError, Global};
+use fl_value_data::{Call, fits};
 
 impl EndUse {
     fn is_for_calls(self) -> bool
@@ -111,27 +111,6 @@ fn put_use_at(bindings: &mut Vec<DraftBinding>, end: EndId, what: EndUse)
     }
 }
 
-// The one value of a list, in memory of its own: it is moved without a call.
-#[inline(always)]
-fn take_one(alloc: Global, values: &mut Vec<Value>) -> Result<Vec<Value>, AllocError>
-    requires one { vec_len values.old ≡ 1 }
-    ensures same { IfOk result (λ v. v.items ≡ values.old.items) }
-{
-    let mut taken = Vec::with_capacity(alloc, 1)?;
-    let value = values.take_last();
-    taken.push_reserved(value);
-    Ok(taken)
-}
-
-// The values of a list, in memory of their own for as many as there are.
-fn take_several(alloc: Global, values: &mut Vec<Value>) -> Result<Vec<Value>, AllocError>
-    ensures same { IfOk result (λ v. v.items ≡ values.old.items) }
-{
-    let mut taken = Vec::with_capacity(alloc, values.len())?;
-    taken.append(values)?;
-    Ok(taken)
-}
-
 impl<'a> Draft<'a> {
     #[inline(always)]
     fn put_use(&mut self, end: EndId, what: EndUse)
@@ -169,7 +148,7 @@ impl<'a> Draft<'a> {
 
     // An end makes a call: a job more, for which there is room.
     #[inline(always)]
-    fn put_call(&mut self, end: EndId, call: Call)
+    fn put_call(&mut self, end: EndId, call: CompactCall)
         requires room { vec_len self.old.jobs < vec_capacity self.old.jobs }
         ensures put { draft_of self.new ≡ with_job (calls end (call_of call)) (change_use end makes_calls (draft_of self.old)) }
     {
@@ -178,44 +157,16 @@ impl<'a> Draft<'a> {
         self.jobs.push_reserved(Job::Call { end, call });
     }
 
-    // The same of a call with one value, which is taken out of the list that it was read in.
-    #[inline(always)]
-    fn put_one(&mut self, end: EndId, call: &mut Call) -> Result<(), CoresLineFault>
-        requires room { vec_len self.old.jobs < vec_capacity self.old.jobs }
-        requires one { vec_len call.old.args ≡ 1 }
-        ensures put { Comes result (draft_of self.new)
-            (goes_on (with_job (calls end (call_of call.old)) (change_use end makes_calls (draft_of self.old)))) }
-    {
-        let msg = call.msg;
-        let args = take_one(self.alloc, &mut call.args)?;
-        self.put_call(end, Call { msg, args });
-        Ok(())
-    }
-
-    // The same of any call.
-    #[inline(never)]
-    fn put_any(&mut self, end: EndId, call: &mut Call) -> Result<(), CoresLineFault>
-        requires room { vec_len self.old.jobs < vec_capacity self.old.jobs }
-        ensures put { Comes result (draft_of self.new)
-            (goes_on (with_job (calls end (call_of call.old)) (change_use end makes_calls (draft_of self.old)))) }
-    {
-        let msg = call.msg;
-        let args = take_several(self.alloc, &mut call.args)?;
-        self.put_call(end, Call { msg, args });
-        Ok(())
-    }
-
-    // The same; most calls have one value.
+    // The same of a call whose arguments are taken out of the list that they were read in.
     #[inline(always)]
     fn add_call(&mut self, end: EndId, call: &mut Call) -> Result<(), CoresLineFault>
         requires room { vec_len self.old.jobs < vec_capacity self.old.jobs }
         ensures put { Comes result (draft_of self.new)
             (goes_on (with_job (calls end (call_of call.old)) (change_use end makes_calls (draft_of self.old)))) }
     {
-        if call.args.len() == 1 {
-            return self.put_one(end, call);
-        }
-        self.put_any(end, call)
+        let call = CompactCall::take(self.alloc, call)?;
+        self.put_call(end, call);
+        Ok(())
     }
 
     // Where a call is accepted, its arguments are taken out of the list that it was read in. Room for the job is made first, so that

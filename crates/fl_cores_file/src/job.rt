@@ -1,8 +1,8 @@
 //! What running cores are to do at their ends.
 
 use fl_base::{EndId, MsgNo};
+use fl_compact_calls::CompactCall;
 use fl_model::DispatcherId;
-use fl_value_data::Call;
 
 /// A circuit that is to be opened, by the core of its client's end.
 #[derive(Debug, Drop)]
@@ -20,7 +20,7 @@ pub struct CircuitRequest<'a> {
 #[derive(Debug, Drop)]
 pub enum Job<'a> {
     /// A binding is opened. Bindings that jobs open are numbered in the jobs' order, behind those that are set up.
-    Open(CircuitRequest<'a>),
+    Open(Box<CircuitRequest<'a>>),
     /// A reply rule: where the end handles the message, it makes the call of the answer. At an end of the set-up
     /// it is set before the cores run, else once the end is there, which takes nothing before.
     Reply {
@@ -31,6 +31,6 @@ pub enum Job<'a> {
     /// An end makes a call.
     Call {
         end: EndId,
-        call: Call,
+        call: CompactCall,
     },
 }

@@ -17,6 +17,7 @@ ghost use Rattle.fl_cores_file.specs.Reports.{both_of, ending_of, report_of};
 use crate::file::{CoresFile, end_by, number_at};
 use crate::report::{CallsByEnd, Ending, Report};
 use fl_base::{EndId, Side};
+use fl_compact_calls::{CompactCall, NumberCall};
 use fl_model::Answer;
 use fl_script_lines::{NameTable, ScriptNames, print_answer, put_end};
 use fl_value::print_call;
@@ -93,7 +94,7 @@ fn rank_all(alloc: Global, names: &[&[u8]]) -> Result<Vec<usize>, AllocError>
 }
 
 // The calls that an end handled.
-fn calls_at(handled: &[CallsByEnd], end: EndId) -> &[Call]
+fn calls_at(handled: &[CallsByEnd], end: EndId) -> &[CompactCall]
     ensures calls { map call_of result.now ≡ at_end (map both_of handled.now) end }
 {
     let Some(both) = handled.get(end.binding) else {
@@ -128,12 +129,13 @@ fn put_calls(
     out: &mut Vec<u8>,
     names: &ScriptNames,
     end: EndId,
-    calls: &[Call],
+    calls: &[CompactCall],
 ) -> Result<(), AllocError>
     ensures ok { OnOk result (out.new.items ≡ out.old.items ++ flat_map (λ c. line (answer_text (names_of names.now) (handle end c))) (map call_of calls.now)) }
 {
+    let mut spare = NumberCall::new(alloc)?;
     for call in calls {
-        put_call(alloc, out, names, end, call)?;
+        put_call(alloc, out, names, end, call.lend(&mut spare))?;
     }
     Ok(())
 }

@@ -1,12 +1,12 @@
 //! The report of a run of cores.
 
-use fl_value_data::Call;
+use fl_compact_calls::CompactCall;
 
 /// Calls at a binding's two ends, in order.
 #[derive(Debug, Drop)]
 pub struct CallsByEnd {
-    pub client: Vec<Call>,
-    pub server: Vec<Call>,
+    pub client: Vec<CompactCall>,
+    pub server: Vec<CompactCall>,
 }
 
 /// How a run came to its end.

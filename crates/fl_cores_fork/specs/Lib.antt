@@ -6,3 +6,4 @@ pub mod CoreThreads
 pub mod Rooms
 pub mod Taking
 pub mod NoReports
+pub mod Rows

@@ -9,7 +9,7 @@ use fl_ring::SharedSide;
 pub struct CoreThread {
     // in a box: it is large, and a core thread goes from hand to hand
     /// The core, with its sides of rings, its queues and its ends' progress.
-    pub running: Box<RunningCore<SharedSide>>,
+    pub running: Box<RunningCore<Vec<SharedSide>>>,
     /// What its turns visit.
     pub plan: TurnPlan,
     /// Its seat on the table of the run, and what is known of the openings of its ends.

@@ -2,6 +2,8 @@
 
 ghost use denote.Param.Send.{IsSend, IsSync};
 ghost use Rattle.fl_value_data.specs.contracts.value.Call as CallRows;
+ghost use Rattle.fl_compact_calls.specs.contracts.call.CompactCall as CompactCallRows;
+ghost use Rattle.fl_compact_calls.specs.contracts.number_call.NumberCall as NumberCallRows;
 ghost use Rattle.fl_compile.specs.contracts.program.Program as ProgramRows;
 ghost use Rattle.fl_machine.specs.contracts.reassemblies.Reassemblies as ReassembliesRows;
 ghost use Rattle.fl_endpoint.specs.contracts.end.End as EndRows;
@@ -14,16 +16,19 @@ ghost use Rattle.fl_ring.specs.contracts.shared.duo_sides.SharedSide as SharedSi
 ghost use Rattle.fl_cores_shares.specs.contracts.recorded_side.RecordedSide as RecordedSideRows;
 ghost use Rattle.fl_nameserv.specs.contracts.names.Names as NamesRows;
 ghost use Rattle.fl_core_run.specs.contracts.end_progress.EndProgress as ProgressRows;
+ghost use Rattle.fl_core.specs.contracts.core_job.BoxedRequest as RequestRows;
 ghost use Rattle.fl_core.specs.contracts.core_job.CoreJob as JobRows;
 ghost use Rattle.fl_core_run.specs.contracts.running.RunningCore as RunningRows;
+ghost use Rattle.fl_cores_fork.specs.Rows.{sides_row};
 ghost use Rattle.fl_cores_fork.specs.contracts.core_thread.CoreThread as CoreThreadRows;
 ghost use Rattle.fl_cores_fork.specs.contracts.core_thread.FinishedCore as DoneRows;
 ghost use Rattle.fl_cores_fork.specs.contracts.noting.NotingRoom as NotingRoomRows;
 ghost use Rattle.fl_cores_fork.specs.contracts.pace.Pace as PaceRows;
 
 use crate::pace::Pace;
+use fl_compact_calls::{CompactCall, NumberCall};
 use fl_compile::Program;
-use fl_core::CoreJob;
+use fl_core::{BoxedRequest, CoreJob};
 use fl_core_run::EndProgress;
 use fl_cores_shares::RecordedSide;
 use fl_endpoint::End;
@@ -48,6 +53,20 @@ fn call_sent()
     ensures sent { IsSend CallRows.the_row }
 {
     assert_send::<Call>();
+}
+
+fn compact_call_sent()
+    ensures sent { IsSend CompactCallRows.the_row }
+{
+    call_sent();
+    assert_send::<CompactCall>();
+}
+
+fn number_call_sent()
+    ensures sent { IsSend NumberCallRows.the_row }
+{
+    call_sent();
+    assert_send::<NumberCall>();
 }
 
 fn program_sent()
@@ -127,14 +146,28 @@ fn names_sent()
 fn progress_sent()
     ensures sent { IsSend ProgressRows.the_row }
 {
-    call_sent();
+    compact_call_sent();
     assert_send::<EndProgress>();
+}
+
+fn compact_call_shared()
+    ensures shared { IsSync CompactCallRows.the_row }
+{
+    assert_sync::<CompactCall>();
+}
+
+fn request_shared()
+    ensures shared { IsSync RequestRows.the_row }
+{
+    assert_sync::<BoxedRequest>();
 }
 
 // Jobs may be shared.
 pub(crate) fn law_job_shared()
     ensures shared { IsSync JobRows.the_row }
 {
+    compact_call_shared();
+    request_shared();
     assert_sync::<CoreJob>();
 }
 
@@ -147,7 +180,7 @@ pub(crate) fn law_pace_shared()
 
 // So may a core with its sides of rings, as a part of a core thread.
 fn running_sent()
-    ensures sent { IsSend (RunningRows.the_field SharedSideRows.the_row).row }
+    ensures sent { IsSend (RunningRows.the_field sides_row).row }
 {
     core_sent();
     side_sent();
@@ -155,6 +188,7 @@ fn running_sent()
     progress_sent();
     names_sent();
     program_sent();
+    number_call_sent();
 }
 
 // All that a core's thread is given may, by itself and as a part.

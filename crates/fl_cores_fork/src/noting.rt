@@ -12,6 +12,7 @@ ghost use Rattle.fl_cores_fork.specs.Rooms.{IsRoomFor, RoomFits};
 use crate::core_thread::{CoreThread, FinishedCore};
 use crate::fork::{law_sound, run_one};
 use fl_base::CoreId;
+use fl_compact_calls::NumberCall;
 use fl_core::{Core, CoreJob};
 use fl_core_run::{Gate, Part, RunSeat, RunningCore, TurnPlan, core_run};
 use fl_cores_shares::{RecordedSide, SideRecord};
@@ -34,7 +35,7 @@ pub(crate) struct NotingRoom {
 // For what there is behind the run: the core, its sides, and what each noted.
 #[derive(Drop)]
 struct RoomBehind {
-    core: Box<RunningCore<SharedSide>>,
+    core: Box<RunningCore<Vec<SharedSide>>>,
     sides: Vec<SharedSide>,
     records: Vec<SideRecord>,
 }
@@ -80,10 +81,10 @@ fn noted(
 
 // The same core over sides that note.
 fn over_noting(
-    running: Box<RunningCore<SharedSide>>,
+    running: Box<RunningCore<Vec<SharedSide>>>,
     room: Vec<RecordedSide>,
     records: Vec<SideRecord>,
-) -> RunningCore<RecordedSide>
+) -> RunningCore<Vec<RecordedSide>>
     requires none { room.items ≡ [] }
     requires fits { length running.value.rings.items ≤ vec_capacity room }
     requires as_many { length records.items ≡ length running.value.rings.items }
@@ -98,9 +99,9 @@ fn over_noting(
 
 // And over its own again, with what these noted. Takes no memory where the room is enough.
 fn over_shared(
-    running: RunningCore<RecordedSide>,
+    running: RunningCore<Vec<RecordedSide>>,
     room: RoomBehind,
-) -> Result<(Box<RunningCore<SharedSide>>, Vec<SideRecord>), AllocError>
+) -> Result<(Box<RunningCore<Vec<SharedSide>>>, Vec<SideRecord>), AllocError>
     requires none { room.sides.items ≡ [] }
     ensures same { IfOk result (λ r. run_of r.0.value ≡ run_of running) }
 {
@@ -122,7 +123,7 @@ fn over_shared(
 fn run_over<R: Wait, G: Gate>(
     rt: &R,
     gate: &G,
-    running: &mut RunningCore<RecordedSide>,
+    running: &mut RunningCore<Vec<RecordedSide>>,
     plan: &TurnPlan,
     jobs: &[CoreJob],
     limit: u64,
@@ -147,7 +148,7 @@ fn run_over<R: Wait, G: Gate>(
 
 // What came of it, over the core's own sides.
 fn finished(
-    running: RunningCore<RecordedSide>,
+    running: RunningCore<Vec<RecordedSide>>,
     plan: TurnPlan,
     run_seat: RunSeat,
     part: Part,
@@ -200,7 +201,7 @@ fn run_noting<R: Wait, G: Gate>(
 }
 
 // A place for a core, which an empty one keeps until then.
-fn place_for_core(alloc: Global) -> Result<Box<RunningCore<SharedSide>>, AllocError> {
+fn place_for_core(alloc: Global) -> Result<Box<RunningCore<Vec<SharedSide>>>, AllocError> {
     let running = RunningCore {
         alloc,
         core: Core::new(alloc, CoreId(0))?,
@@ -209,6 +210,7 @@ fn place_for_core(alloc: Global) -> Result<Box<RunningCore<SharedSide>>, AllocEr
         progresses: Vec::new(alloc),
         names: Names::new(alloc),
         programs: Vec::new(alloc),
+        spare: NumberCall::new(alloc)?,
         idle: 0,
     };
     Ok(Box::new(alloc, running)?)

@@ -20,6 +20,7 @@ ghost use Rattle.fl_cores_fork.specs.CoreThreads.{outcome_of, has_left_off, has_
 
 use crate::core_thread::FinishedCore;
 use fl_base::{EndId, MsgNo, Side};
+use fl_compact_calls::{CompactCall, NumberCall};
 use fl_core::{CoreJob, slot_of};
 use fl_core_run::{EndProgress, RunEnd};
 use fl_cores_file::{CallsByEnd, Ending, Report};
@@ -66,7 +67,11 @@ fn copy_as(alloc: Global, msg: MsgNo, call: &Call) -> Result<Call, AllocError>
 // ---- the calls that an end came to send
 
 // The call of a job, if it is one, is moved behind these.
-fn move_call(alloc: Global, calls: &mut Vec<Call>, job: &mut CoreJob) -> Result<(), AllocError>
+fn move_call(
+    spare: &mut NumberCall,
+    calls: &mut Vec<CompactCall>,
+    job: &mut CoreJob,
+) -> Result<(), AllocError>
     ensures moved { OnOk result (map call_of calls.new.items ≡ map call_of calls.old.items ++ calls_of_job (Some job.old)) }
     ensures end { end_of job.new ≡ end_of job.old }
 {
@@ -74,9 +79,8 @@ fn move_call(alloc: Global, calls: &mut Vec<Call>, job: &mut CoreJob) -> Result<
         CoreJob::Open(_) => Ok(()),
         CoreJob::Reply { .. } => Ok(()),
         CoreJob::Call { call, .. } => {
-            let args = mem::replace(&mut call.args, Vec::new(alloc));
-            let msg = call.msg;
-            calls.push(Call { msg, args })?;
+            let none = CompactCall::of_number(spare, MsgNo(0), 0);
+            calls.push(mem::replace(call, none))?;
             Ok(())
         }
     }
@@ -84,8 +88,8 @@ fn move_call(alloc: Global, calls: &mut Vec<Call>, job: &mut CoreJob) -> Result<
 
 // That of the job at a place.
 fn move_at(
-    alloc: Global,
-    calls: &mut Vec<Call>,
+    spare: &mut NumberCall,
+    calls: &mut Vec<CompactCall>,
     jobs: &mut Vec<CoreJob>,
     place: usize,
 ) -> Result<(), AllocError>
@@ -95,7 +99,7 @@ fn move_at(
 {
     match jobs.get_mut(place) {
         None => Ok(()),
-        Some(job) => move_call(alloc, calls, job),
+        Some(job) => move_call(spare, calls, job),
     }
 }
 
@@ -104,32 +108,52 @@ fn move_calls(
     alloc: Global,
     jobs: &mut Vec<CoreJob>,
     places: &[usize],
-) -> Result<Vec<Call>, AllocError>
+) -> Result<Vec<CompactCall>, AllocError>
     requires once { AreOnce places.now }
     ensures moved { IfOk result (λ calls. map call_of calls.items ≡ calls_of_jobs jobs.old.items places.now) }
     ensures rest { OnOk result (KeepsOthers places.now (length places.now) jobs.old.items jobs.new.items) }
 {
+    let mut spare = NumberCall::new(alloc)?;
     let mut calls = Vec::new(alloc);
     for k in 0..places.len() {
-        move_at(alloc, &mut calls, jobs, places[k])?;
+        move_at(&mut spare, &mut calls, jobs, places[k])?;
     }
     Ok(calls)
+}
+
+// The same call of another message.
+fn reply_as(
+    alloc: Global,
+    spare: &mut NumberCall,
+    answer: MsgNo,
+    call: &CompactCall,
+) -> Result<CompactCall, AllocError>
+    ensures reply { IfOk result (λ reply. call_of reply ≡ record { msg = answer.0; args = map datum_of call.now.args.items }) }
+{
+    match call.number() {
+        Some(number) => Ok(CompactCall::of_number(spare, answer, number)),
+        None => {
+            let copy = copy_as(alloc, answer, call.lend(spare))?;
+            CompactCall::keep(alloc, copy)
+        }
+    }
 }
 
 // The reply to a call by a rule, if there is one, is added.
 fn add_reply(
     alloc: Global,
-    calls: &mut Vec<Call>,
+    spare: &mut NumberCall,
+    calls: &mut Vec<CompactCall>,
     end_work: &EndWork,
-    call: &Call,
+    call: &CompactCall,
 ) -> Result<(), AllocError>
     ensures added { OnOk result (map call_of calls.new.items ≡ map call_of calls.old.items ++ reply_by end_work.now.rules.items (call_of call.now)) }
 {
-    match end_work.rule_for(call.msg) {
+    match end_work.rule_for(call.msg()) {
         None => Ok(()),
         Some(answer) => {
-            let copy = copy_as(alloc, answer, call)?;
-            calls.push(copy)?;
+            let reply = reply_as(alloc, spare, answer, call)?;
+            calls.push(reply)?;
             Ok(())
         }
     }
@@ -138,15 +162,16 @@ fn add_reply(
 // The replies by an end's rules to the calls that it handled are added.
 fn add_replies(
     alloc: Global,
-    calls: &mut Vec<Call>,
+    calls: &mut Vec<CompactCall>,
     end_work: &EndWork,
-    handled: &[Call],
+    handled: &[CompactCall],
 ) -> Result<(), AllocError>
     ensures added { OnOk result (map call_of calls.new.items
         ≡ map call_of calls.old.items ++ flat_map (reply_by end_work.now.rules.items) (map call_of handled.now)) }
 {
+    let mut spare = NumberCall::new(alloc)?;
     for call in handled {
-        add_reply(alloc, calls, end_work, call)?;
+        add_reply(alloc, &mut spare, calls, end_work, call)?;
     }
     Ok(())
 }
@@ -167,7 +192,7 @@ fn sent_by(
     jobs: &mut Vec<CoreJob>,
     end_work: &EndWork,
     progress: &EndProgress,
-) -> Result<Vec<Call>, AllocError>
+) -> Result<Vec<CompactCall>, AllocError>
     requires once { AreOnce end_work.now.jobs.items }
     ensures sent { IfOk result (λ calls. map call_of calls.items ≡ sent_by jobs.old.items (end_work_of end_work.now) progress.now) }
     ensures rest { OnOk result (KeepsOthers end_work.now.jobs.items (length end_work.now.jobs.items) jobs.old.items jobs.new.items) }
@@ -204,7 +229,7 @@ fn progress_left<'a>(
 }
 
 // The calls that the end's progress at a place handled, moved out of it: what is left there is an end's progress that handled none.
-fn take_handled(alloc: Global, progresses: &mut Vec<EndProgress>, place: usize) -> Vec<Call>
+fn take_handled(alloc: Global, progresses: &mut Vec<EndProgress>, place: usize) -> Vec<CompactCall>
     ensures handled { map call_of result.items ≡ given (slice_get progresses.old.items place) [] handled_by }
     ensures others { (n : ℕ) → place < n → slice_get progresses.new.items n ≡ slice_get progresses.old.items n }
 {
@@ -218,7 +243,7 @@ fn take_handled(alloc: Global, progresses: &mut Vec<EndProgress>, place: usize) 
 }
 
 // Those of a core's end's progress.
-fn take_from(alloc: Global, one: &mut FinishedCore, place: usize) -> Vec<Call>
+fn take_from(alloc: Global, one: &mut FinishedCore, place: usize) -> Vec<CompactCall>
     ensures handled { map call_of result.items ≡ given (slice_get (outcome_of one.old).run.progresses place) [] handled_by }
     ensures rest { KeepsFrom (place + 1) (outcome_of one.old) (outcome_of one.new) }
 {
@@ -231,7 +256,7 @@ fn take_at(
     done: &mut Vec<FinishedCore>,
     joined: &JoinedJobs,
     end: EndId,
-) -> Vec<Call>
+) -> Vec<CompactCall>
     requires few { end.binding < 1024 }
     ensures handled { map call_of result.items ≡ handled_at (joined_of joined.now) (map outcome_of done.old.items) end }
     ensures rest { AllZip (KeepsFrom (slot_of end + 1)) (map outcome_of done.old.items) (map outcome_of done.new.items) }
@@ -252,7 +277,7 @@ fn sent_at(
     done: &[FinishedCore],
     joined: &JoinedJobs,
     end: EndId,
-) -> Result<Vec<Call>, AllocError>
+) -> Result<Vec<CompactCall>, AllocError>
     requires few { end.binding < 1024 }
     requires end_work { slot_of end < length joined.now.end_works.items }
     requires places { HavePlaces (joined_of joined.now).end_works jobs.old.items }
@@ -285,7 +310,7 @@ fn made_at(
     done: &[FinishedCore],
     joined: &JoinedJobs,
     end: EndId,
-) -> Result<Vec<Call>, AllocError>
+) -> Result<Vec<CompactCall>, AllocError>
     requires few { end.binding < 1024 }
     requires end_work { slot_of end < length joined.now.end_works.items }
     requires places { HavePlaces (joined_of joined.now).end_works jobs.old.items }

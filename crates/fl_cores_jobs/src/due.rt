@@ -45,7 +45,7 @@ fn replies_in(job: &CoreJob, rules: &[Option<MsgNo>]) -> usize
     match job {
         CoreJob::Open(_) => 0,
         CoreJob::Reply { .. } => 0,
-        CoreJob::Call { call, .. } => { if has_rule(rules, call.msg) { 1 } else { 0 } }
+        CoreJob::Call { call, .. } => { if has_rule(rules, call.msg()) { 1 } else { 0 } }
     }
 }
 

@@ -18,11 +18,11 @@ ghost use Rattle.fl_cores_jobs.specs.Requested.{AddsOpening};
 use crate::end_work::{BindingCores, EndWork};
 use crate::opening::ask;
 use fl_base::{EndId, MsgNo, Side, faults};
+use fl_compact_calls::CompactCall;
 use fl_compile::Program;
-use fl_core::{CoreJob, OpenRequest, slot_of};
+use fl_core::{BoxedRequest, CoreJob, OpenRequest, slot_of};
 use fl_cores_file::{CircuitRequest, CoresLineFault};
 use fl_interface::same_args;
-use fl_value_data::{Call, fits};
 use fl_world_refines::Parts;
 use std::alloc::{AllocError, Global};
 
@@ -128,6 +128,7 @@ impl JoinedJobs {
         };
         self.add_binding(alloc, bound)?;
         self.owners.push(bound.client)?;
+        let request = BoxedRequest::new(alloc, request)?;
         self.add_job(end, CoreJob::Open(request))
     }
 
@@ -168,7 +169,7 @@ impl JoinedJobs {
     }
 
     // The fault for which a call is refused.
-    fn call_fault(&self, programs: &[Program], end: EndId, call: &Call) -> Option<u8>
+    fn call_fault(&self, programs: &[Program], end: EndId, call: &CompactCall) -> Option<u8>
         requires few { length self.now.bindings.items ≤ 1024 }
         requires end_works { HasEndWork self.now.bindings.items self.now.end_works.items }
         ensures there { IfNone result (end.binding < length self.now.bindings.items) }
@@ -182,10 +183,10 @@ impl JoinedJobs {
             return Some(faults::WRONG_NAME);
         };
         let interface = program.interface();
-        if usize::from(call.msg.0) >= interface.messages.as_slice().len() {
+        if usize::from(call.msg().0) >= interface.messages.as_slice().len() {
             return Some(faults::NO_SUCH_MESSAGE);
         }
-        if !fits(call, interface) {
+        if !call.fits(interface) {
             return Some(faults::DOES_NOT_FIT);
         }
         if self.has_rules_at(end) {
@@ -238,7 +239,7 @@ impl JoinedJobs {
         &mut self,
         programs: &[Program],
         end: EndId,
-        call: Call,
+        call: CompactCall,
     ) -> Result<(), CoresLineFault>
         requires few { length self.old.bindings.items ≤ 1024 }
         requires end_works { HasEndWork self.old.bindings.items self.old.end_works.items }

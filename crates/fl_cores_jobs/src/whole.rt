@@ -103,7 +103,10 @@ impl JoinedJobs {
         ensures set { OnErr result (parts.new.cores.items ≡ parts.old.cores.items) }
     {
         match job {
-            Job::Open(request) => self.open(alloc, parts, &request),
+            Job::Open(request) => {
+                let request = Box::into_inner(request);
+                self.open(alloc, parts, &request)
+            }
             Job::Reply {
                 end,
                 message,

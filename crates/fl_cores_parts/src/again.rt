@@ -32,7 +32,7 @@ pub struct WiredCores {
 /// A core over sides of its own kind, and what its turns visit.
 #[derive(Drop)]
 pub struct CoreOver<S> {
-    pub running: RunningCore<S>,
+    pub running: RunningCore<Vec<S>>,
     pub plan: TurnPlan,
 }
 

@@ -17,6 +17,7 @@ ghost use Rattle.fl_cores_parts.specs.CoreThreads.{core_share, stationed, AddsCo
 
 use crate::sharing::{SideOwners, hand_out_queues, hand_out_sides};
 use fl_base::{EndId, LinkId, Side};
+use fl_compact_calls::NumberCall;
 use fl_compile::Program;
 use fl_core::{Core, slot_of};
 use fl_core_run::{EndProgress, OpeningStatus, RunSeat, RunningCore, TurnPlan};
@@ -242,7 +243,7 @@ impl CoreInputs<'_> {
         core: Core,
         rings: Vec<SharedSide>,
         queues: Vec<QueueLink>,
-    ) -> Result<Box<RunningCore<SharedSide>>, AllocError>
+    ) -> Result<Box<RunningCore<Vec<SharedSide>>>, AllocError>
         requires few { length self.now.joined.now.bindings.items ≤ 1024 }
         requires end_works { HasEndWork self.now.joined.now.bindings.items self.now.joined.now.end_works.items }
         ensures core { IfOk result (λ r. r.value.core ≡ core) }
@@ -261,6 +262,7 @@ impl CoreInputs<'_> {
             progresses: outfit.progresses,
             names: outfit.names,
             programs: outfit.programs,
+            spare: NumberCall::new(self.alloc)?,
             idle: 0,
         };
         Ok(Box::new(self.alloc, running)?)

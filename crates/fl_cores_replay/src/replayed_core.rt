@@ -136,7 +136,7 @@ fn place_of_work(end: EndId) -> Option<usize> {
 }
 
 // How many jobs of an end are done.
-fn jobs_done(core: &RunningCore<ReplayedSide>, end: EndId) -> usize {
+fn jobs_done(core: &RunningCore<Vec<ReplayedSide>>, end: EndId) -> usize {
     let Some(place) = place_of_work(end) else {
         return 0;
     };
@@ -147,7 +147,7 @@ fn jobs_done(core: &RunningCore<ReplayedSide>, end: EndId) -> usize {
 }
 
 // Whether all that its sides noted came again.
-fn is_done(core: &RunningCore<ReplayedSide>) -> bool {
+fn is_done(core: &RunningCore<Vec<ReplayedSide>>) -> bool {
     for side in core.rings.iter() {
         if !side.is_done() {
             return false;
@@ -156,21 +156,21 @@ fn is_done(core: &RunningCore<ReplayedSide>) -> bool {
     true
 }
 
-fn is_ready(core: &RunningCore<ReplayedSide>, place: usize) -> bool {
+fn is_ready(core: &RunningCore<Vec<ReplayedSide>>, place: usize) -> bool {
     match core.rings.get(place) {
         None => true,
         Some(side) => side.is_ready(),
     }
 }
 
-fn may_forward(core: &RunningCore<ReplayedSide>, link: LinkId) -> bool {
+fn may_forward(core: &RunningCore<Vec<ReplayedSide>>, link: LinkId) -> bool {
     match core.side_of(link) {
         None => true,
         Some(place) => is_ready(core, place),
     }
 }
 
-fn may_turn(core: &RunningCore<ReplayedSide>, jobs: &[CoreJob], dispatcher: usize) -> bool {
+fn may_turn(core: &RunningCore<Vec<ReplayedSide>>, jobs: &[CoreJob], dispatcher: usize) -> bool {
     match core.due(jobs, dispatcher) {
         None => true,
         Some(at) => match at.inlet {
@@ -181,7 +181,7 @@ fn may_turn(core: &RunningCore<ReplayedSide>, jobs: &[CoreJob], dispatcher: usiz
 }
 
 // Whether what a task's look is to find is there.
-fn may_go(core: &RunningCore<ReplayedSide>, jobs: &[CoreJob], task: Task) -> bool {
+fn may_go(core: &RunningCore<Vec<ReplayedSide>>, jobs: &[CoreJob], task: Task) -> bool {
     match task {
         Task::Forward(link) => may_forward(core, link),
         Task::Turn(dispatcher) => may_turn(core, jobs, dispatcher),
@@ -190,7 +190,7 @@ fn may_go(core: &RunningCore<ReplayedSide>, jobs: &[CoreJob], task: Task) -> boo
 }
 
 // What the event at hand did at sides.
-fn end_event(core: &mut RunningCore<ReplayedSide>) -> RingEffect {
+fn end_event(core: &mut RunningCore<Vec<ReplayedSide>>) -> RingEffect {
     let mut effect = NO_RING_EFFECT;
     for side in core.rings.iter_mut() {
         side.end_event(&mut effect);
@@ -199,7 +199,7 @@ fn end_event(core: &mut RunningCore<ReplayedSide>) -> RingEffect {
 }
 
 // Sides whose look found nothing stand behind so many events.
-fn mark_missed(core: &mut RunningCore<ReplayedSide>, steps: usize) {
+fn mark_missed(core: &mut RunningCore<Vec<ReplayedSide>>, steps: usize) {
     for side in core.rings.iter_mut() {
         side.mark_missed(steps);
     }
@@ -208,14 +208,14 @@ fn mark_missed(core: &mut RunningCore<ReplayedSide>, steps: usize) {
 // ---- tasks, and the event that is told of each, if one is
 
 fn forward(
-    core: &mut RunningCore<ReplayedSide>,
+    core: &mut RunningCore<Vec<ReplayedSide>>,
     link: LinkId,
 ) -> Result<Option<CoreEvent>, AllocError> {
     core.forward(link)?;
     Ok(Some(CoreEvent::Forward(link)))
 }
 
-fn say(core: &mut RunningCore<ReplayedSide>, link: LinkId) -> Option<CoreEvent> {
+fn say(core: &mut RunningCore<Vec<ReplayedSide>>, link: LinkId) -> Option<CoreEvent> {
     core.say(link);
     Some(CoreEvent::Say(link))
 }
@@ -230,7 +230,7 @@ fn job_at(joined: &JoinedJobs, end: EndId, done: usize) -> Option<CoreEvent> {
 }
 
 fn do_job(
-    core: &mut RunningCore<ReplayedSide>,
+    core: &mut RunningCore<Vec<ReplayedSide>>,
     joined: &JoinedJobs,
     end: EndId,
 ) -> Result<Option<CoreEvent>, AllocError> {
@@ -242,13 +242,13 @@ fn do_job(
     Ok(job_at(joined, end, before))
 }
 
-fn write(core: &mut RunningCore<ReplayedSide>, end: EndId) -> Option<CoreEvent> {
+fn write(core: &mut RunningCore<Vec<ReplayedSide>>, end: EndId) -> Option<CoreEvent> {
     core.write(end);
     Some(CoreEvent::Write(end))
 }
 
 fn turn(
-    core: &mut RunningCore<ReplayedSide>,
+    core: &mut RunningCore<Vec<ReplayedSide>>,
     jobs: &[CoreJob],
     dispatcher: usize,
 ) -> Result<Option<CoreEvent>, AllocError> {
@@ -260,18 +260,18 @@ fn turn(
     Ok(Some(CoreEvent::Turn { dispatcher, end }))
 }
 
-fn tell(core: &mut RunningCore<ReplayedSide>, link: LinkId) -> Option<CoreEvent> {
+fn tell(core: &mut RunningCore<Vec<ReplayedSide>>, link: LinkId) -> Option<CoreEvent> {
     core.tell(link);
     Some(CoreEvent::Tell(link))
 }
 
-fn ack(core: &mut RunningCore<ReplayedSide>, end: EndId) -> Option<CoreEvent> {
+fn ack(core: &mut RunningCore<Vec<ReplayedSide>>, end: EndId) -> Option<CoreEvent> {
     core.ack(end);
     Some(CoreEvent::Ack(end))
 }
 
 fn perform(
-    core: &mut RunningCore<ReplayedSide>,
+    core: &mut RunningCore<Vec<ReplayedSide>>,
     joined: &JoinedJobs,
     task: Task,
 ) -> Result<Option<CoreEvent>, AllocError> {
@@ -411,7 +411,7 @@ impl CoreReplay {
     // Notes an event.
     fn note(
         &mut self,
-        core: &mut RunningCore<ReplayedSide>,
+        core: &mut RunningCore<Vec<ReplayedSide>>,
         event: CoreEvent,
     ) -> Result<(), AllocError> {
         let effect = end_event(core);
@@ -435,7 +435,7 @@ impl CoreReplay {
 
 impl CoreReplay {
     // Whether the core takes another turn.
-    fn takes_another(&self, core: &RunningCore<ReplayedSide>) -> bool {
+    fn takes_another(&self, core: &RunningCore<Vec<ReplayedSide>>) -> bool {
         self.left > 0 || self.stale < MOST_STALE && !is_done(core)
     }
 
@@ -460,7 +460,7 @@ impl CoreReplay {
     // Does a task.
     fn go(
         &mut self,
-        core: &mut RunningCore<ReplayedSide>,
+        core: &mut RunningCore<Vec<ReplayedSide>>,
         joined: &JoinedJobs,
         task: Task,
     ) -> Result<(), AllocError> {

@@ -2,10 +2,10 @@
 //! how many turns were counted. They are worked out by hand, by what a turn does (`docs/CORES.md`).
 
 use crate::gates::{NoGate, SideBySide};
+use fl_compact_calls::CompactCall;
 use fl_core_run::Gate;
 use fl_cores::{CoresFault, Report, run_cores};
 use fl_cores_file::{CallsByEnd, CoresFile, CoresText, Ending, read_cores_text};
-use fl_value_data::{Call, Value};
 use fl_world::Config;
 use std::alloc::Global;
 use std::sync::Wait;
@@ -271,16 +271,16 @@ call q.c echo_call(3)
 };
 
 // Whether these calls are made so, one after another.
-fn are_said(calls: &[Call], said: &[PlainCall]) -> bool {
+fn are_said(calls: &[CompactCall], said: &[PlainCall]) -> bool {
     if calls.len() != said.len() {
         return false;
     }
     for (call, (number, wanted)) in calls.iter().zip(said) {
-        let is_wanted = match call.args.first() {
-            Some(Value::Int(value)) => *value == *wanted,
-            _ => false,
+        let is_wanted = match call.number() {
+            Some(value) => i128::from(value) == *wanted,
+            None => false,
         };
-        if !is_wanted || call.msg.0 != *number || call.args.len() != 1 {
+        if !is_wanted || call.msg().0 != *number {
             return false;
         }
     }

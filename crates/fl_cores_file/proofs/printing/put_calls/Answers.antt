@@ -14,10 +14,11 @@ loop-call-preserved c =
     let so_far : List ℕ = flat_map text (map call_of (take c.loop-call.call-index c.args.calls.now)) in
     let last : List ℕ = text (call_of c.call-item.result) in
     c.in_ok-put_call.ensures.ok
+    ∙ (ap (λ (lent : TheCall). c.loop-call.out.items ++ text lent) c.lend.ensures.same
     ∙ (ap (λ (t : List ℕ). t ++ last) c.loop-call.invariant
     ∙ (append_assoc c.args.out.now.items so_far last
     ∙ ap (λ (t : List ℕ). c.args.out.now.items ++ t)
-    (sym (one_text_more call_of text c.args.calls.now c.loop-call.call-index (c.loop-call.call-index + 1) c.call-item.result (omega arith) c.loop-call-test.true c.call-item.is))))
+    (sym (one_text_more call_of text c.args.calls.now c.loop-call.call-index (c.loop-call.call-index + 1) c.call-item.result (omega arith) c.loop-call-test.true c.call-item.is)))))
 
 pub returns : goal.returns
 returns c =

@@ -10,7 +10,7 @@ use Rattle.fl_cores_jobs.proofs.joining.JoinedJobs.join_one.Goals as goal
 
 pub returns-in-Open-clause-refused : goal.returns-in-Open-clause-refused
 returns-in-Open-clause-refused c =
-    rw c.in-Open.is (request_stops c.open.result (length c.args.parts.now.cores.items) c.args.parts.now (joined_of c.args.self.now) (request_of c.in-Open.request)
+    rw c.in-Open.is (request_stops c.open.result (length c.args.parts.now.cores.items) c.args.parts.now (joined_of c.args.self.now) (request_of c.in-Open.request.value)
     c.open.ensures.refused)
 
 pub returns-in-Reply-clause-refused : goal.returns-in-Reply-clause-refused
@@ -40,7 +40,7 @@ returns-in-Call-clause-refused c =
 
 pub returns-in-Open-clause-passed : goal.returns-in-Open-clause-passed
 returns-in-Open-clause-passed c =
-    rw c.in-Open.is (request_passes c.open.result (length c.args.parts.now.cores.items) c.args.parts.now (joined_of c.args.self.now) (request_of c.in-Open.request)
+    rw c.in-Open.is (request_passes c.open.result (length c.args.parts.now.cores.items) c.args.parts.now (joined_of c.args.self.now) (request_of c.in-Open.request.value)
     c.open.ensures.passed)
 
 pub returns-in-Reply-clause-passed : goal.returns-in-Reply-clause-passed

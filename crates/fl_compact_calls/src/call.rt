@@ -1,0 +1,117 @@
+//! A call in little memory.
+
+ghost use Rattle.std.specs.Prelude.{◌≡◌, IfOk, IfSome};
+ghost use Rattle.fl_interface.specs.Interface.{interface_of};
+ghost use Rattle.fl_value_data.specs.Fits.{fits_of};
+ghost use Rattle.fl_value_data.specs.Value.{call_of};
+ghost use Rattle.fl_compact_calls.specs.Held.{one_number};
+
+use crate::holding::HeldCall;
+use crate::number_call::NumberCall;
+use fl_base::MsgNo;
+use fl_interface::Interface;
+use fl_value_data::Call;
+use std::alloc::{AllocError, Global};
+use std::fmt;
+use std::marker::Model;
+use std::snapshot::Snapshot;
+
+/// A call in little memory. Contracts see it as the call that it was made of.
+#[derive(Drop)]
+pub struct CompactCall {
+    held: HeldCall,
+    // for contracts alone
+    was: Snapshot<Call>,
+}
+
+impl Model for CompactCall {
+    ghost use Rattle.std.specs.Prelude.{◌≡◌};
+    ghost use Rattle.fl_value_data.specs.declared.value.Call.{Call};
+    ghost use Rattle.fl_value_data.specs.contracts.value.Call.{the_row};
+    ghost use Rattle.fl_value_data.specs.Value.{call_of};
+    ghost use Rattle.fl_compact_calls.specs.Held.{held_in};
+
+    ghost Value = { Call };
+
+    ghost coded = { the_row.coded };
+
+    ghost view = { λ c. c.was.value };
+
+    ghost invariant = { λ c. held_in c.held ≡ call_of c.was.value };
+}
+
+impl CompactCall {
+    /// A call, whose arguments are taken out of it. Takes no memory for one of one number.
+    ///
+    /// # Errors
+    /// Out of memory.
+    #[inline(always)]
+    pub fn take(alloc: Global, call: &mut Call) -> Result<CompactCall, AllocError>
+        ensures taken { IfOk result (λ c. c ≡ call.old) }
+    {
+        let was = Snapshot::of(call);
+        let held = HeldCall::take(alloc, call)?;
+        Ok(CompactCall { held, was })
+    }
+
+    /// A call. Takes no memory for one of one number.
+    ///
+    /// # Errors
+    /// Out of memory.
+    #[inline(always)]
+    pub fn keep(alloc: Global, call: Call) -> Result<CompactCall, AllocError>
+        ensures kept { IfOk result (λ c. c ≡ call) }
+    {
+        let was = Snapshot::of(&call);
+        let held = HeldCall::keep(alloc, call)?;
+        Ok(CompactCall { held, was })
+    }
+
+    /// A call of one number. Takes no memory.
+    #[inline(always)]
+    pub fn of_number(spare: &mut NumberCall, msg: MsgNo, number: u64) -> CompactCall
+        ensures call { call_of result ≡ record { msg = msg.0; args = one_number number } }
+    {
+        let was = Snapshot::of(spare.set(msg, number));
+        let held = HeldCall::Number(msg, number);
+        CompactCall { held, was }
+    }
+
+    /// Its number, where that is held as its one argument.
+    #[inline(always)]
+    pub fn number(&self) -> Option<u64>
+        ensures number { IfSome result (λ n. (call_of self.now).args ≡ one_number n) }
+    {
+        self.held.number()
+    }
+
+    /// Its message.
+    #[inline(always)]
+    pub fn msg(&self) -> MsgNo
+        ensures msg { result.0 ≡ (call_of self.now).msg }
+    {
+        self.held.msg()
+    }
+
+    /// Whether it fits an interface.
+    #[inline(always)]
+    pub fn fits(&self, interface: &Interface) -> bool
+        ensures same { result ≡ fits_of (interface_of interface.now) (call_of self.now) }
+    {
+        self.held.fits(interface)
+    }
+
+    /// The call, for one of one number by memory that is used again. Takes no memory.
+    #[inline(always)]
+    pub fn lend<'a>(&'a self, spare: &'a mut NumberCall) -> &'a Call
+        ensures same { call_of result.now ≡ call_of self.now }
+    {
+        self.held.lend(spare)
+    }
+}
+
+impl fmt::Debug for CompactCall {
+    fn fmt<W: fmt::Write>(&self, f: &mut fmt::Formatter<W>) -> fmt::Result {
+        fmt::Debug::fmt(&self.held, f)
+    }
+}
