@@ -6,7 +6,7 @@ use Rattle.fl_ring.specs.Duo.{acknowledgement}
 use Rattle.fl_history_rings.specs.declared.board.Action.{Action}
 use Rattle.fl_history_rings.specs.declared.board.Action.TheVariants.{Put, Found, Missed, Saw, Took}
 use Rattle.fl_history_sides.specs.States.{TheHistorySide}
-use Rattle.fl_history_sides.specs.Noted.{NotesRoom, NotesPut, NotesSeen, NotesTaken, Notes, IsNoted}
+use Rattle.fl_history_sides.specs.Noted.{NotesFound, NotesFull, NotesPut, NotesSeen, NotesTaken, Notes, IsNoted}
 use Rattle.fl_history_entries.proofs.Acting.{AllWait, wait_join, FollowActs, all_wait_follow, one_follows}
 use Rattle.fl_history_entries.proofs.Growing.{Grew, grew_on, grew_not, grew_then}
 
@@ -50,12 +50,13 @@ put_simple frag did notes = let put = put_acts frag did notes in (put.room, put.
 none_simple : (did : List Action) → (let none : List Action = [] in did ≡ none) → Simple did
 none_simple did is = ([], tt, inl is)
 
-room_simple : (did : List Action) → NotesRoom did → Simple did
-room_simple did notes =
-    ⊎_elim
-    (λ none. none_simple did none)
-    (λ some. ⊎_elim (λ missed_one. ([], tt, inr (Missed, missed_one))) (λ found_one. ([], tt, inr (Found found_one.0, found_one.1))) some)
-    notes
+found_simple : (did : List Action) → NotesFound did → Simple did
+found_simple did notes =
+    ⊎_elim (λ none. none_simple did none) (λ found_one. ([], tt, inr (Found found_one.0, found_one.1))) notes
+
+full_simple : (did : List Action) → NotesFull did → Simple did
+full_simple did notes =
+    ⊎_elim (λ some. found_simple did some) (λ missed_one. ([], tt, inr (Missed, missed_one))) notes
 
 seen_wait : (look : Look) (did : List Action) → NotesSeen look did → AllWait did
 seen_wait look did (f, at, is) = subst (λ (l : List Action). AllWait l) (sym is) (tt, (tt, tt))
@@ -79,7 +80,7 @@ wait_simple did wait = (did, wait, inl refl)
 
 notes_simple : (look : Look) (did : List Action) → Notes look did → Simple did
 notes_simple (placed frag) did notes = put_simple frag did notes
-notes_simple no_room did notes = room_simple did notes
+notes_simple no_room did notes = full_simple did notes
 notes_simple spent did notes = none_simple did notes
 notes_simple (saw frag) did notes = wait_simple did (seen_wait (saw frag) did notes)
 notes_simple saw_ack did notes = wait_simple did (seen_wait saw_ack did notes)
