@@ -1,0 +1,4 @@
+pub mod Acted
+pub mod Along
+pub mod Sides
+pub mod Truth

@@ -1,0 +1,19 @@
+//! Steps in one order are true steps of sides that face each other: laws, as contracts of functions that do
+//! nothing.
+
+ghost use Rattle.fl_history_facing.specs.Laws.{StepsAreTrue, SidesFace, OwnStepsShowSides};
+
+/// In one order of all steps each step of a side finds what stands in its ring then, and the side across stays.
+pub fn law_steps_are_true()
+    ensures true_steps { StepsAreTrue }
+{}
+
+/// The two sides of each ring face each other, at each moment of one order of all steps.
+pub fn law_sides_face()
+    ensures face { SidesFace }
+{}
+
+/// What a core did itself shows its sides as all steps do.
+pub fn law_own_steps_show_sides()
+    ensures own { OwnStepsShowSides }
+{}
