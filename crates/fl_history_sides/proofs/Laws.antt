@@ -1,14 +1,15 @@
 -- The laws of a core's sides.
-use Rattle.std.proofs.Common.{ℕ, ◌≡◌, ◌⊎◌, inl, inr, List, [], ◌∷◌, slice_get, Some, ap, subst, ◌∙◌, sym}
+use Rattle.std.proofs.Common.{ℕ, ◌≡◌, ◌⊎◌, inl, inr, List, [], ◌∷◌, slice_get, Some, ap, subst, ◌∙◌, sym, refl, false, ◌++◌}
 use Rattle.std.specs.List.{AllByRecursion}
-use Rattle.fl_link.specs.Looks.{LinkStep}
+use Rattle.fl_link.specs.Looks.{Look, LinkStep}
 use Rattle.fl_ring.specs.SharedSides.{SharedPuts, SharedTakes}
+use Rattle.fl_history_rings.specs.declared.board.Action.{Action}
 use Rattle.fl_history_rings.specs.declared.board.Entry.{Entry}
-use Rattle.fl_history_rings.specs.Cores.{TheCore}
+use Rattle.fl_history_rings.specs.Cores.{TheCore, IsSameCore, noting}
 use Rattle.fl_history_sides.specs.States.{TheHistorySide, until_last, with_steps, core_until, shown_of, numbers_of}
-use Rattle.fl_history_sides.specs.Noted.{HistoryPuts, HistoryTakes}
+use Rattle.fl_history_sides.specs.Noted.{HistoryPuts, HistoryTakes, IsNoted, GoesOn, noting_all}
 use Rattle.fl_history_sides.specs.Core.{IsStepBy, AreSidesOf}
-use Rattle.fl_history_sides.specs.Laws.{SidesAreShared, OneTellsAll}
+use Rattle.fl_history_sides.specs.Laws.{SidesAreShared, SidesStay, OneTellsAll}
 use Rattle.fl_history_sides.proofs.Lists.{all_there}
 use Rattle.fl_history_sides.proofs.Until.{until_here}
 use Rattle.fl_history_sides.proofs.Prefixes.{EndsWith, last_of, all_last, numbered, Numbered}
@@ -20,6 +21,38 @@ sides_are_shared p q (look ∷ looks) (m, step, rest) = (m.side, by step, sides_
     by : LinkStep HistoryPuts HistoryTakes p look m → LinkStep SharedPuts SharedTakes p.side look m.side
     by (inl puts) = inl puts.0
     by (inr takes) = inr takes.0
+
+-- ---- it is the same core
+
+same_as : (c d : TheCore) → d ≡ c → IsSameCore c d
+same_as c d is = record { table_is = ap (λ (x : TheCore). x.table) is; sides_are = ap (λ (x : TheCore). x.sides) is; number_is = ap (λ (x : TheCore). x.number) is }
+
+same_on : (c d e : TheCore) → IsSameCore c d → IsSameCore d e → IsSameCore c e
+same_on c d e h k = record { table_is = k.table_is ∙ h.table_is; sides_are = k.sides_are ∙ h.sides_are; number_is = k.number_is ∙ h.number_is }
+
+noting_same : (c : TheCore) (s : ℕ) (did : List Action) → IsSameCore c (noting_all c s did)
+noting_same c s [] = same_as c c refl
+noting_same c s (d ∷ did) = let rest = noting_same (noting c s d) s did in record { table_is = rest.table_is; sides_are = rest.sides_are; number_is = rest.number_is }
+
+goes_same : (s : ℕ) (c : TheCore) (did : List Action) (d : TheCore) → GoesOn s c did d → IsSameCore c d
+goes_same s c [] d is = same_as c d is
+goes_same s c (a ∷ did) d (since, none, is) =
+    let more = noting_same (with_steps c (c.steps ++ since)) s (a ∷ did) in
+    same_on c (noting_all (with_steps c (c.steps ++ since)) s (a ∷ did)) d (record { table_is = more.table_is; sides_are = more.sides_are; number_is = more.number_is }) (same_as (noting_all (with_steps c (c.steps ++ since)) s (a ∷ did)) d is)
+
+pub noted_stays : (p : TheHistorySide) (look : Look) (q : TheHistorySide) → IsNoted p look q → (q.number ≡ p.number) × IsSameCore p.core q.core
+noted_stays p look q h = (h.number, goes_same p.number p.core h.did q.core h.goes_on)
+
+pub sides_stay : SidesStay
+sides_stay p q [] same = (ap (λ (x : TheHistorySide). x.number) (sym same), same_as p.core q.core (ap (λ (x : TheHistorySide). x.core) (sym same)))
+sides_stay p q (look ∷ looks) (m, step, rest) =
+    let one = noted_stays p look m (by step) in
+    let more = sides_stay m q looks rest in
+    (more.0 ∙ one.0, same_on p.core m.core q.core one.1 more.1)
+  where
+    by : LinkStep HistoryPuts HistoryTakes p look m → IsNoted p look m
+    by (inl puts) = puts.1
+    by (inr takes) = takes.1
 
 -- ---- one tells all
 

@@ -75,6 +75,9 @@ sides_shown c sides at lent =
       did = subst (λ (l : List ℕ). AllByRecursion (IsStepBy c.number l) c.steps) same lent.did;
     }
 
+pub some_states : (c : TheCore) (sides : List RingSide) (at : ℕ) → IsLent c sides at → 0 < length (map (side_shown c) sides)
+some_states c sides at lent = let within = lent.within in let long : length (map (side_shown c) sides) ≡ length sides = length-map sides (side_shown c) in omega (arith, within, long)
+
 -- a core that did nothing, and has no sides
 abbrev some_table : TableId
 some_table = record { words = 0; slots = 0; views_name = 0; atom = 0; block = 0; offset = 0; slot_names = [] }

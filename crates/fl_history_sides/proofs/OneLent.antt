@@ -96,7 +96,7 @@ module _ (c : TheCore) (sides : List RingSide) (at : ℕ) (a : RingSide) (read :
   done R look t b (step, does) s is =
       let both : R (shared_of c a) look (shared_of t b) × IsNoted (side_shown c a) look (side_shown t b) = (step, noted c a look t b does) in (
         subst (λ (p : TheHistorySide). R p.side look (state_of (lent_as t (set sides at b) at)).side × IsNoted p look (state_of (lent_as t (set sides at b) at))) (sym (old_shown s is))
-        (subst (λ (q : TheHistorySide). R (shared_of c a) look q.side × IsNoted (side_shown c a) look q) (sym (new_shown t b)) both),
+            (subst (λ (q : TheHistorySide). R (shared_of c a) look q.side × IsNoted (side_shown c a) look q) (sym (new_shown t b)) both),
         ap rest_of (sym is) ∙ rest_so look t b does,
       )
 

@@ -3,7 +3,7 @@ use Rattle.std.specs.Prelude.{ℕ, ◌≡◌, ◌⊎◌, List, [], slice_get, sl
 use Rattle.fl_link.specs.Looks.{Look, Looks, LinkStep}
 use Rattle.fl_ring.specs.SharedSides.{SharedPuts, SharedTakes}
 use Rattle.fl_history_rings.specs.declared.board.Action.{Action}
-use Rattle.fl_history_rings.specs.Cores.{TheCore}
+use Rattle.fl_history_rings.specs.Cores.{TheCore, IsSameCore}
 use Rattle.fl_history_sides.specs.States.{TheHistorySide}
 use Rattle.fl_history_sides.specs.Noted.{HistoryPuts, HistoryTakes, GoesOn, noting_all}
 use Rattle.fl_history_sides.specs.Core.{AreSidesOf}
@@ -12,6 +12,11 @@ use Rattle.fl_history_sides.specs.Core.{AreSidesOf}
 abbrev pub SidesAreShared : Type 0
 SidesAreShared = (p q : TheHistorySide) (looks : List Look) → Looks (LinkStep HistoryPuts HistoryTakes) p looks q
     → Looks (LinkStep SharedPuts SharedTakes) p.side looks q.side
+
+-- Law: whatever a side does, it keeps its number, and its core is the same, which may have done more.
+abbrev pub SidesStay : Type 0
+SidesStay = (p q : TheHistorySide) (looks : List Look) → Looks (LinkStep HistoryPuts HistoryTakes) p looks q
+    → (q.number ≡ p.number) × IsSameCore p.core q.core
 
 -- Law: a core that did something is as one of its sides tells.
 abbrev pub OneTellsAll : Type 0

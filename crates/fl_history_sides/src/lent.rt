@@ -1,6 +1,6 @@
 //! A core with its sides, while one of them is lent.
 
-ghost use Rattle.std.specs.Prelude.{◌≡◌, ◌≢◌, ℕ, Ok, Err, OnOk, false, length};
+ghost use Rattle.std.specs.Prelude.{◌≡◌, ◌≢◌, ◌<◌, ℕ, Ok, Err, OnOk, false, length};
 ghost use Rattle.fl_base.specs.declared.fragment.Frag.{Frag};
 ghost use Rattle.fl_base.specs.Control.{is_ack_only, bare};
 ghost use Rattle.fl_history_sides.specs.Lent.{LentPuts, LentTakes, lent_has_room, lent_epoch, lent_told};
@@ -122,6 +122,7 @@ impl LentSide {
 
     // The core again.
     pub(crate) fn into_core(self) -> RingsCore
+        ensures some { 0 < length (states_of self) }
         ensures core { AreSidesOf result (states_of self) }
     {
         let LentSide {

@@ -18,6 +18,6 @@ mod law;
 mod lent;
 mod sides;
 
-pub use law::{law_cores_follow, law_one_tells_all, law_sides_are_shared};
+pub use law::{law_cores_follow, law_one_tells_all, law_sides_are_shared, law_sides_stay};
 pub use lent::LentSide;
 pub use sides::HistorySides;

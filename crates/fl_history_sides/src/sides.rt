@@ -71,7 +71,7 @@ impl HistorySides {
     /// The core again, where it has sides.
     pub fn into_core(self) -> Option<RingsCore>
         ensures core { MatchOption result (states_in self.lent ≡ [])
-            (λ core. AreSidesOf core (states_in self.lent)) }
+            (λ core. (0 < length (states_in self.lent)) × AreSidesOf core (states_in self.lent)) }
     {
         let HistorySides { lent } = self;
         let lent = lent?;
