@@ -29,7 +29,7 @@ pub all_behind : {A : Type 0} (P : A → Type 0) (xs ys : List A) → AllByRecur
 all_behind P [] ys all_so = all_so
 all_behind P (x ∷ xs) ys all_so = all_behind P xs ys all_so.1
 
-cancel : {A : Type 0} (xs ys zs : List A) → xs ++ ys ≡ xs ++ zs → ys ≡ zs
+pub cancel : {A : Type 0} (xs ys zs : List A) → xs ++ ys ≡ xs ++ zs → ys ≡ zs
 cancel [] ys zs is = is
 cancel (x ∷ xs) ys zs is = cancel xs ys zs (cons_same x x (xs ++ ys) (xs ++ zs) is).1
 
@@ -46,7 +46,7 @@ gather_none s (e ∷ es) is =
     (λ here. absurd (false≢true (sym is ∙ ap (λ (b : Bool). b || acts_in s es) (eq-eqb e.side s here) ∙ true_or (acts_in s es))))
     (λ ne. piece_else s e es ne ∙ gather_none s es (ap (λ (b : Bool). b || acts_in s es) (sym (ne_eqb e.side s ne)) ∙ is))
 
-gather_until : (s : ℕ) (es : List Entry) → gather one_action s (until_last s es) ≡ gather one_action s es
+pub gather_until : (s : ℕ) (es : List Entry) → gather one_action s (until_last s es) ≡ gather one_action s es
 gather_until s es =
     let t = since_of s es in
     sym (append-nil (gather one_action s (until_last s es)))

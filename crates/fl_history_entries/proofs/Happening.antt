@@ -183,7 +183,7 @@ module _ (c d : TheCore) (s m t : HistoryRun) (h : AreSidesOf c s.rings) (k : Ar
 
 -- ---- a turn over a side is one of a ring's channel
 
-map_at : {A B : Type 0} (f : A → B) (xs : List A) (n : ℕ) (x : A) → slice_get xs n ≡ Some x → slice_get (map f xs) n ≡ Some (f x)
+pub map_at : {A B : Type 0} (f : A → B) (xs : List A) (n : ℕ) (x : A) → slice_get xs n ≡ Some x → slice_get (map f xs) n ≡ Some (f x)
 map_at f [] n x at = absurd (cc)
 map_at {A} {B} f (y ∷ ys) zero x at = let same : y ≡ x = cc in ap (λ (z : A). Some (f z)) same
 map_at f (y ∷ ys) (suc n) x at = map_at f ys n x at
@@ -197,7 +197,7 @@ wired_ring : (o : Option WiredEnd) (x : Inlet) → given o None (λ p. Some (inl
 wired_ring None x is = absurd (cc)
 wired_ring (Some w) x is = (w, refl, cc)
 
-ring_seat : (s : HistoryRun) (e n : ℕ) (seat : TheEndAtChannel) → IsCore s.core → slice_get s.core.board.seats e ≡ Some seat → inlet_of s.core e ≡ Some (inlet.Side n)
+pub ring_seat : (s : HistoryRun) (e n : ℕ) (seat : TheEndAtChannel) → IsCore s.core → slice_get s.core.board.seats e ≡ Some seat → inlet_of s.core e ≡ Some (inlet.Side n)
     → seat.kind ≡ Ring
 ring_seat s e n seat sound at is =
     let w = wired_ring (slice_get s.core.wired_ends e) (inlet.Side n) is in
@@ -285,7 +285,7 @@ turned_leaves name turn.Full m t notes = ap (λ (z : HistoryRun). z.rings) notes
 turned_leaves name turn.Nothing m t notes = ap (λ (z : HistoryRun). z.rings) notes
 turned_leaves name (turn.Refused f) m t notes = ap (λ (z : HistoryRun). z.rings) notes
 
-notes_leave : (log_entry : LogEntry) (m t : HistoryRun) → Notes log_entry m t → t.rings ≡ m.rings
+pub notes_leave : (log_entry : LogEntry) (m t : HistoryRun) → Notes log_entry m t → t.rings ≡ m.rings
 notes_leave (looked n l answer) m t notes = ap (λ (z : HistoryRun). z.rings) notes
 notes_leave (passed n to frag circuit outcome) m t notes = ap (λ (z : HistoryRun). z.rings) notes
 notes_leave (arrived n l frag e answer) m t notes = ap (λ (z : HistoryRun). z.rings) notes

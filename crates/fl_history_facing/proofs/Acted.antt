@@ -18,11 +18,11 @@ use Rattle.fl_history_sides.specs.Noted.{NotesFound, NotesPut, NotesSeen, NotesT
 
 -- ---- pieces of actions
 
-abbrev over : {A : Type 0} → (Action → List A) → List Action → List A
+abbrev pub over : {A : Type 0} → (Action → List A) → List Action → List A
 over f [] = []
 over f (a ∷ acts) = f a ++ over f acts
 
-over_join : {A : Type 0} (f : Action → List A) (xs ys : List Action) → over f (xs ++ ys) ≡ over f xs ++ over f ys
+pub over_join : {A : Type 0} (f : Action → List A) (xs ys : List Action) → over f (xs ++ ys) ≡ over f xs ++ over f ys
 over_join f [] ys = refl
 over_join {A} f (x ∷ xs) ys = ap (λ (l : List A). f x ++ l) (over_join f xs ys) ∙ sym (append_assoc (f x) (over f xs) (over f ys))
 
@@ -31,7 +31,7 @@ piece_over : {A : Type 0} (f : Action → List A) (b : Bool) (a : Action) (acts 
 piece_over f true a acts = refl
 piece_over f false a acts = refl
 
-gather_over : {A : Type 0} (f : Action → List A) (s : ℕ) (es : List Entry) → gather f s es ≡ over f (gather one_action s es)
+pub gather_over : {A : Type 0} (f : Action → List A) (s : ℕ) (es : List Entry) → gather f s es ≡ over f (gather one_action s es)
 gather_over f s [] = refl
 gather_over {A} f s (e ∷ es) =
     ap (λ (l : List A). (if e.side == s then f e.action else []) ++ l) (gather_over f s es)

@@ -1,5 +1,6 @@
 -- Steps in one order find along what stands in the way that their side takes from.
 use Rattle.std.proofs.Common.{ℕ, ◌≡◌, ◌≢◌, ◌==◌, eq-eqb, ne_eqb, Option, Some, None, List, [], ◌∷◌, ◌++◌, ap, subst, ◌∙◌, sym, refl}
+use Rattle.std.specs.List.{AllByRecursion}
 use mathlib.Core.Logic.{dite}
 use mathlib.Core.Option.{some}
 use native.Mathlib.Decide.{ℕ_discrete}
@@ -125,3 +126,24 @@ module _ (ends : List SideEnd) where
       (λ ne.
       subst (λ (o : Option Frag). SeenStands s b o) (sym (ap (seen_from seen) (piece_else s e es ne)))
       (seen_run run.0 b s seen es (seen_else a run.0 e s seen run.1 ne stands) run.2))
+
+  -- among steps by other sides, none of them across
+  pub find_among : (s : ℕ) (es : List Entry) (ways after : List Way) (q : Way) → get_elem? ways (mate s) ≡ some q
+      → AllByRecursion (λ e. e.side ≢ mate s) es → Runs (Goes ends) ways es after → FindAlong q.waiting (gather one_action s es)
+  find_among s [] ways after q at none run = tt
+  find_among s (e ∷ es) ways after q at none run =
+      let goes = run.1 in
+      let effect = does_finds goes.end.slots goes.mine goes.theirs e.action goes.mine_left goes.theirs_left goes.does in
+      dite (ℕ_discrete e.side s)
+      (λ here.
+      let same : goes.theirs ≡ q = same_there ways (mate s) goes.theirs q (subst (λ (x : ℕ). get_elem? ways (mate x) ≡ some goes.theirs) here goes.stood_back) at in
+      let left : goes.theirs_left ≡ taken_by e.action q = effect.2 ∙ ap (taken_by e.action) same in
+      let still : get_elem? run.0 (mate s) ≡ some (taken_by e.action q) =
+      subst (λ (x : ℕ). get_elem? run.0 (mate x) ≡ some goes.theirs_left) here (theirs_after ends ways run.0 e goes) ∙ ap (λ (z : Way). some z) left in
+      subst (λ (l : List Action). FindAlong q.waiting l) (sym (piece_here s e es here))
+      (along_with goes.end.slots goes.mine q e.action (gather one_action s es) (subst (λ (z : Way). Finds goes.end.slots goes.mine z e.action) same effect.0)
+      (find_among s es run.0 after (taken_by e.action q) still none.1 run.2)))
+      (λ ne.
+      let apart : mate s ≢ mate e.side = λ d. ne (sym (mate_back e.side) ∙ ap mate (sym d) ∙ mate_back s) in
+      subst (λ (l : List Action). FindAlong q.waiting l) (sym (piece_else s e es ne))
+      (find_among s es run.0 after q (else_after ends ways run.0 e goes (mate s) (λ d. none.0 (sym d)) apart ∙ at) none.1 run.2))

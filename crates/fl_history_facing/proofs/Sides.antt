@@ -26,7 +26,7 @@ drop_all [] ys = refl
 drop_all (x ∷ xs) ys = drop_all xs ys
 
 module _ (ends : List SideEnd) (log : List Entry) (ways : List Way) (run : Runs (Goes ends) (all_empty (length ends)) log ways) where
-  long : length ways ≡ length ends
+  pub long : length ways ≡ length ends
   long = goes_long ends (all_empty (length ends)) ways log run ∙ length-replicate (length ends) (way_with [] 0 0)
 
   -- what was put into a way is what was taken from it, and what stands there
@@ -47,7 +47,7 @@ module _ (ends : List SideEnd) (log : List Entry) (ways : List Way) (run : Runs 
     told = told_taken s log;
   }
 
-  slots_at : (s : ℕ) (end : SideEnd) → get_elem? ends s ≡ some end → slots_of ends s ≡ end.slots
+  pub slots_at : (s : ℕ) (end : SideEnd) → get_elem? ends s ≡ some end → slots_of ends s ≡ end.slots
   slots_at s end at = ap (λ (z : SideEnd). z.slots) (read_there ends s end no_side at)
 
   face : (table : TableId) (s : ℕ) (end : SideEnd) → ArePaired ends → get_elem? ends s ≡ some end → AreFacing (facing_at table ends log s)
@@ -71,7 +71,7 @@ sides_face = λ table ends log ways s end paired run at. face ends log ways run 
 
 -- ---- by its core's own steps
 
-own_steps : (ends : List SideEnd) (s : ℕ) (end : SideEnd) (log : List Entry) → get_elem? ends s ≡ some end
+pub own_steps : (ends : List SideEnd) (s : ℕ) (end : SideEnd) (log : List Entry) → get_elem? ends s ≡ some end
     → ((i : ℕ) (e : Entry) → get_elem? log i ≡ some e → IsByItsCore ends e) → gather one_action s (steps_of end.core log) ≡ gather one_action s log
 own_steps ends s end [] at by = refl
 own_steps ends s end (e ∷ es) at by =
