@@ -22,7 +22,7 @@ use Rattle.fl_history_rings.proofs.Logs.{same_there}
 use Rattle.fl_history_sides.specs.States.{side_shown, core_until}
 use Rattle.fl_history_sides.specs.Noted.{NotesFound, NotesFull, NotesPut, Notes, IsNoted, GoesOn, noting_all}
 use Rattle.fl_history_sides.proofs.Until.{goes_on, noting_push}
-use Rattle.fl_history_sides.proofs.Steps.{after_missed, after_found, after_written}
+use Rattle.fl_history_sides.proofs.Steps.{after_until, after_missed, after_found, after_written}
 
 -- the side, as those of a ring with a table of its own are shown
 abbrev pub shared_of : TheCore → RingSide → TheSide
@@ -67,7 +67,13 @@ pub noted : (c : TheCore) (a : RingSide) (look : Look) (t : TheCore) (b : RingSi
 noted c a look t b h =
     let s : ℕ = a.put.side in
     let by_all : GoesOn s (core_until s c) h.did (core_until s t) = subst (λ (x : TheCore). GoesOn s (core_until s c) h.did (core_until s x)) (sym h.then_is) (goes_on c s h.did) in
-    record { number = h.number; did = h.did; notes = h.notes; goes_on = subst (λ (k : ℕ). GoesOn s (core_until s c) h.did (core_until k t)) (sym h.number) by_all }
+    record {
+      number = h.number;
+      did = h.did;
+      notes = h.notes;
+      goes_on = subst (λ (k : ℕ). GoesOn s (core_until s c) h.did (core_until k t)) (sym h.number) by_all;
+      shown = sym (after_until t.table b.put.cursor.size b.put.side t.steps);
+    }
 
 -- ---- a look for room
 

@@ -1,5 +1,5 @@
 -- The laws of a core's sides.
-use Rattle.std.proofs.Common.{ℕ, ◌≡◌, ◌⊎◌, inl, inr, List, [], ◌∷◌, slice_get, Some, ap, subst, ◌∙◌, sym, refl, false, ◌++◌}
+use Rattle.std.proofs.Common.{ℕ, ◌≡◌, ◌⊎◌, inl, inr, List, [], ◌∷◌, slice_get, Some, ap, subst, ◌∙◌, sym, refl, ◌++◌}
 use Rattle.std.specs.List.{AllByRecursion}
 use Rattle.fl_link.specs.Looks.{Look, LinkStep}
 use Rattle.fl_ring.specs.SharedSides.{SharedPuts, SharedTakes}

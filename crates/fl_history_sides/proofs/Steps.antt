@@ -11,13 +11,13 @@ use Rattle.fl_history_rings.specs.declared.board.Action.{Action}
 use Rattle.fl_history_rings.specs.declared.board.Action.TheVariants.{Put, Found, Missed, Saw, Took}
 use Rattle.fl_history_rings.specs.declared.board.Entry.{Entry}
 use Rattle.fl_history_rings.specs.Rings.{entry}
-use Rattle.fl_history_rings.specs.Rule.{gather, known_from, one_put, one_took, one_found, puts_at, takes_at, known_at}
+use Rattle.fl_history_rings.specs.Rule.{gather, known_from, one_put, one_took, one_found, puts_at, takes_at, known_at, one_action, seen_from, told_from}
 use Rattle.fl_history_rings.specs.Cores.{TheCore, noting}
 use Rattle.fl_history_rings.proofs.Logs.{gather_here, gather_else, not_gathered, known_push}
 use Rattle.fl_history_rings.proofs.Told.{told_put, told_else, told_still, seen_here, seen_else}
-use Rattle.fl_history_sides.specs.States.{TheHistorySide, holder_of, one_load, one_miss, side_after, shown_of, core_until, with_steps}
+use Rattle.fl_history_sides.specs.States.{until_last, TheHistorySide, holder_of, one_load, one_miss, side_after, shown_of, core_until, with_steps}
 use Rattle.fl_history_sides.specs.Noted.{noting_all}
-use Rattle.fl_history_sides.proofs.Until.{until_else}
+use Rattle.fl_history_sides.proofs.Until.{until_else, gather_until}
 
 module _ (table : TableId) (n s : ℕ) where
   abbrev seen_as : List Frag → ℕ → ℕ → List Frag → Option Frag → ℕ → ℕ → TheSide
@@ -44,6 +44,12 @@ module _ (table : TableId) (n s : ℕ) where
   after_else es e ne =
       alike (gather_else one_put s es e ne) (ap (λ (xs : List ℕ). known_from 0 xs) (gather_else one_found s es e ne)) (ap length (gather_else one_load s es e ne)) (gather_else one_took s es e ne) (seen_else s es e ne)
       (ap length (gather_else one_miss s es e ne)) (told_else s es e ne)
+
+  -- what its core did since by others tells nothing of it
+  pub after_until : (es : List Entry) → side_after table n s (until_last s es) ≡ side_after table n s es
+  after_until es =
+      alike (gather_until one_put s es) (ap (λ (xs : List ℕ). known_from 0 xs) (gather_until one_found s es)) (ap length (gather_until one_load s es)) (gather_until one_took s es)
+      (ap (λ (ds : List Action). seen_from None ds) (gather_until one_action s es)) (ap length (gather_until one_miss s es)) (ap (λ (ds : List Action). told_from 0 0 ds) (gather_until one_action s es))
 
   module _ (core : ℕ) (es : List Entry) where
     abbrev is : TheSide

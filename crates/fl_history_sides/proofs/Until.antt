@@ -1,7 +1,8 @@
 -- A core's steps up to the last by one of its sides.
-use Rattle.std.proofs.Common.{ℕ, ◌≡◌, ◌≢◌, ◌==◌, ◌||◌, Bool, true, false, if◌then◌else◌, eq-eqb, ne_eqb, List, [], ◌∷◌, ◌++◌, ap, ◌∙◌, sym, refl}
+use Rattle.std.proofs.Common.{ℕ, ◌≡◌, ◌≢◌, ◌==◌, ◌||◌, Bool, true, false, if◌then◌else◌, eq-eqb, ne_eqb, List, [], ◌∷◌, ◌++◌, ap, ◌∙◌, sym, refl, append_assoc, append-nil}
 use Rattle.fl_history_rings.specs.declared.board.Action.{Action}
 use Rattle.fl_history_rings.specs.declared.board.Entry.{Entry}
+use Rattle.fl_history_rings.specs.Rule.{gather}
 use Rattle.fl_history_rings.specs.Cores.{TheCore, noting}
 use Rattle.fl_history_rings.proofs.Logs.{then_is, else_is}
 use Rattle.fl_history_sides.specs.States.{acts_in, until_last, with_steps, core_until}
@@ -65,6 +66,35 @@ since_of s (x ∷ es) = by (acts_in s (x ∷ es)) refl (since_of s es)
     by false is rest =
         let nothing : until_last s (x ∷ es) ≡ (let none : List Entry = [] in none) = else_is (acts_in s (x ∷ es)) (x ∷ until_last s es) (let none : List Entry = [] in none) is in
         record { since = x ∷ es; none = is; all = ap (λ (l : List Entry). l ++ x ∷ es) (sym nothing) }
+
+-- ---- what they say of the side
+
+no_first : (a b : Bool) → (a || b) ≡ false → a ≡ false
+no_first true b is = absurd (cc)
+no_first false b is = refl
+
+no_second : (a b : Bool) → (a || b) ≡ false → b ≡ false
+no_second true b is = absurd (cc)
+no_second false b is = is
+
+none_gathered : {A : Type 0} (f : Action → List A) (s : ℕ) (es : List Entry) → acts_in s es ≡ false → (let none : List A = [] in gather f s es ≡ none)
+none_gathered f s [] none = refl
+none_gathered {A} f s (e ∷ es) none =
+    let nothing : List A = [] in
+    ap (λ (xs : List A). xs ++ gather f s es) (else_is (e.side == s) (f e.action) nothing (no_first (e.side == s) (acts_in s es) none))
+    ∙ none_gathered f s es (no_second (e.side == s) (acts_in s es) none)
+
+gather_both : {A : Type 0} (f : Action → List A) (s : ℕ) (es more : List Entry) → gather f s (es ++ more) ≡ gather f s es ++ gather f s more
+gather_both f s [] more = refl
+gather_both {A} f s (e ∷ es) more =
+    let one : List A = if e.side == s then f e.action else [] in
+    ap (λ (xs : List A). one ++ xs) (gather_both f s es more) ∙ sym (append_assoc one (gather f s es) (gather f s more))
+
+pub gather_until : {A : Type 0} (f : Action → List A) (s : ℕ) (es : List Entry) → gather f s (until_last s es) ≡ gather f s es
+gather_until {A} f s es =
+    let t = since_of s es in
+    sym (ap (λ (l : List Entry). gather f s l) t.all
+    ∙ (gather_both f s (until_last s es) t.since ∙ (ap (λ (xs : List A). gather f s (until_last s es) ++ xs) (none_gathered f s t.since t.none) ∙ append-nil (gather f s (until_last s es)))))
 
 -- ---- of a core
 

@@ -11,7 +11,7 @@ use Rattle.fl_history_rings.specs.declared.board.Action.{Action}
 use Rattle.fl_history_rings.specs.declared.board.Action.TheVariants.{Put, Found, Missed, Saw, Took}
 use Rattle.fl_history_rings.specs.declared.board.Entry.{Entry}
 use Rattle.fl_history_rings.specs.Cores.{TheCore, noting}
-use Rattle.fl_history_sides.specs.States.{TheHistorySide, acts_in, with_steps}
+use Rattle.fl_history_sides.specs.States.{TheHistorySide, side_after, acts_in, with_steps}
 
 -- ---- which actions are noted
 
@@ -68,6 +68,8 @@ pub record IsNoted (p : TheHistorySide) (look : Look) (q : TheHistorySide) : Typ
   pub did : List Action
   pub notes : Notes look did
   pub goes_on : GoesOn p.number p.core did q.core
+  -- the side is shown by what its core did
+  pub shown : q.side ≡ side_after q.side.ring q.side.size q.number q.core.steps
 
 -- A step of a side is one of a side of a ring that has a table of its own, and is noted.
 abbrev pub HistoryPuts : TheHistorySide → Look → TheHistorySide → Type 0
