@@ -46,14 +46,14 @@ steps_else : (k : ℕ) (e : Entry) (es : List Entry) → e.core ≢ k → steps_
 steps_else k e es ne = else_is (e.core == k) (e ∷ steps_of k es) (steps_of k es) (ne_eqb e.core k ne)
 
 -- an item of two lists in a row is one of either
-at_either : {A : Type 0} (xs ys : List A) (i : ℕ) (a : A) → get_elem? (xs ++ ys) i ≡ some a → ((j : ℕ) × (get_elem? xs j ≡ some a)) ⊎ ((j : ℕ) × (get_elem? ys j ≡ some a))
+pub at_either : {A : Type 0} (xs ys : List A) (i : ℕ) (a : A) → get_elem? (xs ++ ys) i ≡ some a → ((j : ℕ) × (get_elem? xs j ≡ some a)) ⊎ ((j : ℕ) × (get_elem? ys j ≡ some a))
 at_either [] ys i a at = inr (i, at)
 at_either (x ∷ xs) ys zero a at = inl (zero, at)
 at_either (x ∷ xs) ys (suc i) a at =
     ⊎_elim (λ here. inl (suc here.0, here.1)) (λ there. inr there) (at_either xs ys i a at)
 
 -- a core that did nothing
-did_nothing : (n : ℕ) (log : List Entry) → ((i : ℕ) (e : Entry) → get_elem? log i ≡ some e → e.core ≢ n) → (let none : List Entry = [] in steps_of n log ≡ none)
+pub did_nothing : (n : ℕ) (log : List Entry) → ((i : ℕ) (e : Entry) → get_elem? log i ≡ some e → e.core ≢ n) → (let none : List Entry = [] in steps_of n log ≡ none)
 did_nothing n [] never = refl
 did_nothing n (e ∷ es) never =
     steps_else n e es (never 0 e refl)
@@ -79,10 +79,10 @@ module _ (ends : List SideEnd) (cores : List TheCore) (order : InOneOrder ends c
 -- ---- the steps of an order of events
 
 -- all are this core's
-AllOf : ℕ → List Entry → Type 0
+abbrev pub AllOf : ℕ → List Entry → Type 0
 AllOf k steps = (j : ℕ) (e : Entry) → get_elem? steps j ≡ some e → e.core ≡ k
 
-steps_join : (k : ℕ) (xs ys : List Entry) → steps_of k (xs ++ ys) ≡ steps_of k xs ++ steps_of k ys
+pub steps_join : (k : ℕ) (xs ys : List Entry) → steps_of k (xs ++ ys) ≡ steps_of k xs ++ steps_of k ys
 steps_join k [] ys = refl
 steps_join k (x ∷ xs) ys =
     dite (ℕ_discrete x.core k)
@@ -92,14 +92,12 @@ steps_join k (x ∷ xs) ys =
     (λ ne.
     steps_else k x (xs ++ ys) ne ∙ steps_join k xs ys ∙ ap (λ (l : List Entry). l ++ steps_of k ys) (sym (steps_else k x xs ne)))
 
-steps_own : (k : ℕ) (steps : List Entry) → AllOf k steps → steps_of k steps ≡ steps
-unfolding AllOf
+pub steps_own : (k : ℕ) (steps : List Entry) → AllOf k steps → steps_of k steps ≡ steps
 steps_own k [] own = refl
 steps_own k (x ∷ xs) own =
     steps_here k x xs (own 0 x refl) ∙ ap (λ (l : List Entry). x ∷ l) (steps_own k xs (λ j e at. own (suc j) e at))
 
-steps_others : (k j : ℕ) (steps : List Entry) → j ≢ k → AllOf j steps → (let none : List Entry = [] in steps_of k steps ≡ none)
-unfolding AllOf
+pub steps_others : (k j : ℕ) (steps : List Entry) → j ≢ k → AllOf j steps → (let none : List Entry = [] in steps_of k steps ≡ none)
 steps_others k j steps ne own = did_nothing k steps (λ i e at is. ne (sym (own i e at) ∙ is))
 
 -- whose steps those of each event are
@@ -138,7 +136,7 @@ module _ (ends : List SideEnd) (cores : List TheCore) (order : InOneOrder ends c
       (is_cut ends cores order events all_here cut)
 
   each_own_steps : EachOwn whole_order.order
-  unfolding EachOwn AllOf
+  unfolding EachOwn
   each_own_steps i d at j e there = (whole_order.by_its_core i j d e at there).0
 
   steps_order : InOneOrder ends cores

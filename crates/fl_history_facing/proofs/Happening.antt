@@ -29,6 +29,7 @@ use Rattle.fl_core_run.specs.Run.{SideRelations, TheRun, AtProgress}
 use Rattle.fl_core_run.specs.LogEntries.{LogEntry, looked, passed, arrived, heard, said, told, opened, called, ruled, wrote, acked, turned, OnRing, OnQueue, OnCore, PutsAt, TakesAt, Does, Notes, NotesHeard, NotesOpened, NotesCalled, NotesTurned, ActsSoundly}
 use Rattle.fl_cores_joined.specs.Rings.{FacingSide}
 use Rattle.fl_cores_joined.specs.Steps.{true_ways}
+use Rattle.fl_cores_joined.proofs.Lifted.{queue_lifted, core_lifted, notes_lifted, acts_lifted}
 use Rattle.fl_history_rings.specs.declared.board.Entry.{Entry}
 use Rattle.fl_history_rings.specs.declared.board.SideEnd.{SideEnd}
 use Rattle.fl_history_rings.specs.Rings.{Way, Goes, Runs, all_empty, IsByItsCore}
@@ -69,76 +70,6 @@ module _ (table : TableId) (ends : List SideEnd) (log : List Entry) where
         ap facing_run on.rest
         ∙ ap (λ (l : List FacingSide). record (facing_run s) { core = t.core; rings = l }) (map_set m s.rings n on.after);
   }
-
-  on_queue : (n : ℕ) (s t : TheRun TheHistorySide) (Event : TheCore → TheQueue → TheCore → TheQueue → Type 0) → OnQueue n s Event t → OnQueue n (facing_run s) Event (facing_run t)
-  on_queue n s t Event on = record {
-    before = on.before;
-    before_is = on.before_is;
-    after = on.after;
-    event = on.event;
-    rest = ap facing_run on.rest;
-  }
-
-  on_core : (s t : TheRun TheHistorySide) (Event : TheCore → TheCore → Type 0) → OnCore s Event t → OnCore (facing_run s) Event (facing_run t)
-  on_core s t Event on = record { event = on.event; rest = ap facing_run on.rest }
-
-  -- ---- what is noted besides
-
-  at_progress : (e : EndId) (change : TheEndProgress → TheEndProgress) (s t : TheRun TheHistorySide) → AtProgress e change s t → AtProgress e change (facing_run s) (facing_run t)
-  at_progress e change s t at = record { changes = at.changes; rest = ap facing_run at.rest }
-
-  heard_noted : (answer : Result MonitorAnswer LinkReceiveFault) (s t : TheRun TheHistorySide) → NotesHeard answer s t → NotesHeard answer (facing_run s) (facing_run t)
-  heard_noted (Ok answered.Full) s t notes = ap facing_run notes
-  heard_noted (Ok answered.Done) s t notes = ap facing_run notes
-  heard_noted (Ok (answered.Opened e)) s t notes = ap facing_run notes
-  heard_noted (Ok (answered.OpeningRefused e reason)) s t notes = at_progress e _ s t notes
-  heard_noted (Err f) s t notes = ap facing_run notes
-
-  opened_noted : (name : EndId) (answer : Result ℕ OpenFault) (s t : TheRun TheHistorySide) → NotesOpened name answer s t → NotesOpened name answer (facing_run s) (facing_run t)
-  opened_noted name (Ok e) s t notes = at_progress name _ s t notes
-  opened_noted name (Err (opening.Monitor monitor.OutboxFull)) s t notes = ap facing_run notes
-  opened_noted name (Err f) s t notes = at_progress name _ s t notes
-
-  called_noted : (name : EndId) (answer : Result (Unit {0}) EndFault) (s t : TheRun TheHistorySide) → NotesCalled name answer s t → NotesCalled name answer (facing_run s) (facing_run t)
-  called_noted name (Ok done) s t notes = at_progress name _ s t notes
-  called_noted name (Err f) s t notes = ap facing_run notes
-
-  turned_noted : (name : EndId) (answer : TurnAnswer) (s t : TheRun TheHistorySide) → NotesTurned name answer s t → NotesTurned name answer (facing_run s) (facing_run t)
-  turned_noted name (turn.Handle call) s t notes = at_progress name _ s t notes
-  turned_noted name turn.Part s t notes = ap facing_run notes
-  turned_noted name turn.Ready s t notes = ap facing_run notes
-  turned_noted name turn.Quiet s t notes = ap facing_run notes
-  turned_noted name turn.Full s t notes = ap facing_run notes
-  turned_noted name turn.Nothing s t notes = ap facing_run notes
-  turned_noted name (turn.Refused f) s t notes = ap facing_run notes
-
-  noted : (log_entry : LogEntry) (s t : TheRun TheHistorySide) → Notes log_entry s t → Notes log_entry (facing_run s) (facing_run t)
-  noted (looked n l answer) s t notes = ap facing_run notes
-  noted (passed n to frag circuit outcome) s t notes = ap facing_run notes
-  noted (arrived n l frag e answer) s t notes = ap facing_run notes
-  noted (heard n l frag answer) s t notes = heard_noted answer s t notes
-  noted (said n l answer) s t notes = ap facing_run notes
-  noted (told n l answer) s t notes = ap facing_run notes
-  noted (opened name request answer) s t notes = opened_noted name answer s t notes
-  noted (called name call answer) s t notes = called_noted name answer s t notes
-  noted (ruled name msg reply answer) s t notes = at_progress name _ s t notes
-  noted (wrote name out answer) s t notes = ap facing_run notes
-  noted (acked name n answer) s t notes = ap facing_run notes
-  noted (turned dispatcher name from answer) s t notes = turned_noted name answer s t notes
-
-  soundly : (log_entry : LogEntry) (s : TheRun TheHistorySide) → ActsSoundly log_entry s → ActsSoundly log_entry (facing_run s)
-  soundly (looked n l answer) s acts = acts
-  soundly (passed n to frag circuit outcome) s acts = acts
-  soundly (arrived n l frag e answer) s acts = acts
-  soundly (heard n l frag answer) s acts = acts
-  soundly (said n l answer) s acts = acts
-  soundly (told n l answer) s acts = acts
-  soundly (opened name request answer) s acts = acts
-  soundly (called name call answer) s acts = acts
-  soundly (ruled name msg reply answer) s acts = acts
-  soundly (wrote name out answer) s acts = acts
-  soundly (acked name n answer) s acts = acts
-  soundly (turned dispatcher name from answer) s acts = acts
 
 module _ (table : TableId) (ends : List SideEnd) (log steps : List Entry) (ways after : List Way) (c d : HistoryCore) (s t : TheRun TheHistorySide)
     (paired : ArePaired ends) (apart : AreOfTwoCores ends) (by : (i : ℕ) (e : Entry) → get_elem? log i ≡ some e → IsByItsCore ends e)
@@ -215,10 +146,10 @@ module _ (table : TableId) (ends : List SideEnd) (log steps : List Entry) (ways 
   does (said n l answer) on may = on_ring table ends log n s t _ _ on (said_carried f history_sides true_ways on.before on.after (alone n _ on) l.0 s.core t.core answer on.event)
   does (told n l answer) on may =
       on_ring table ends log n s t _ _ on (told_carried f history_sides true_ways on.before on.after (alone n _ on) answer on.event.0, on.event.1)
-  does (opened name request answer) on may = on_core table ends log s t _ on
-  does (called name call answer) (e, at, on) may = (e, at, on_core table ends log s t _ on)
-  does (ruled name msg reply answer) (e, at, on) may = (e, at, on_core table ends log s t _ on)
-  does (wrote name (outlet.Queue n) answer) (e, at, on) may = (e, at, on_queue table ends log n s t _ on)
+  does (opened name request answer) on may = core_lifted (map f) s t _ on
+  does (called name call answer) (e, at, on) may = (e, at, core_lifted (map f) s t _ on)
+  does (ruled name msg reply answer) (e, at, on) may = (e, at, core_lifted (map f) s t _ on)
+  does (wrote name (outlet.Queue n) answer) (e, at, on) may = (e, at, queue_lifted (map f) n s t _ on)
   does (wrote name (outlet.Side n) answer) (e, at, on) may =
       (e, at, on_ring table ends log n s t _ _ on (wrote_carried f history_sides true_ways on.before on.after (alone n _ on) e s.core t.core answer on.event))
   does (acked name n answer) (e, at, on) may =
@@ -228,7 +159,7 @@ module _ (table : TableId) (ends : List SideEnd) (log steps : List Entry) (ways 
         on_ring table ends log n s t _ _ on
             ((seat.0, seat.1, acks_carried f history_sides true_ways on.before on.after (alone n _ on) seat.0.kind seat.0.end answer seat.2), on.event.1),
       )
-  does (turned dispatcher name (inlet.Queue n) answer) (e, at, due_is, on) may = (e, at, due_is, on_queue table ends log n s t _ on)
+  does (turned dispatcher name (inlet.Queue n) answer) (e, at, due_is, on) may = (e, at, due_is, queue_lifted (map f) n s t _ on)
   does (turned dispatcher name (inlet.Side n) answer) (e, at, due_is, on) may = (
     e,
     at,
@@ -241,7 +172,7 @@ module _ (table : TableId) (ends : List SideEnd) (log steps : List Entry) (ways 
           rest = on.event.rest;
         }),
   )
-  does (turned dispatcher name inlet.Arrivals answer) (e, at, due_is, on) may = (e, at, due_is, on_core table ends log s t _ on)
+  does (turned dispatcher name inlet.Arrivals answer) (e, at, due_is, on) may = (e, at, due_is, core_lifted (map f) s t _ on)
 
 -- ---- the law
 
@@ -252,7 +183,7 @@ entries_happen_truly = λ table ends log steps ways after s t log_entry c d pair
     let k_mid : AreSidesAt table ends (log ++ steps) d mid.rings = subst (λ (l : List TheHistorySide). AreSidesAt table ends (log ++ steps) d l) same k in (
       run_beside table ends log mid,
       does table ends log steps ways after c d s mid paired apart by run goes h k_mid number more happens.3.core log_entry happens.1 may,
-      noted table ends log log_entry mid t happens.2,
+      notes_lifted (map (beside table ends log)) log_entry mid t happens.2,
       happens.3,
-      soundly table ends log log_entry s happens.4,
+      acts_lifted (map (beside table ends log)) log_entry s happens.4,
     )
