@@ -343,10 +343,10 @@ module _ (ends : List SideEnd) (slots id s : ℕ) (end : SideEnd) (at : get_elem
         (λ due.
         goes_noted a ws ws Nothing fits held r (side_control n r.x x) r.p r.q (lies' ws a fits held) refl (λ z outside. refl) (Found x) Nothing Then (first_there ws a fits held due)
         (learns_found ends core s did r.x n x Nothing due refl (λ j ne. refl) (λ j q d e. absurd (nothing_reading j q d e)))
-        (sent_so ws a fits held, (λ _. ap (λ (z : ℕ). alone (view_of ends core (did ++ entry core z (Found x) ∷ []) Nothing)) (sym at_side)), (λ no. absurd (no (due ∙ sym so)))))
+        (sent_so ws a fits held, (λ _. ap (λ (z : ℕ). alone (view_of ends core (did ++ entry core z (Found x) ∷ []) Nothing)) (sym at_side)), (λ no. absurd (no (due ∙ sym so))), seen_so ws a fits held))
         (λ other.
         goes_noted a ws ws Nothing fits held r (side_control n r.x x) r.p r.q (lies' ws a fits held) refl (λ z outside. refl) Missed Nothing Then (none_there ws a fits held other) (learns_missed ends core s did r.x n x other)
-        (sent_so ws a fits held, (λ due. absurd (other (due ∙ so))), (λ _. ap (λ (z : ℕ). alone (view_of ends core (did ++ entry core z Missed ∷ []) Nothing)) (sym at_side))))
+        (sent_so ws a fits held, (λ due. absurd (other (due ∙ so))), (λ _. ap (λ (z : ℕ). alone (view_of ends core (did ++ entry core z Missed ∷ []) Nothing)) (sym at_side)), seen_so ws a fits held))
 
     pub allows_count : (me : Seated) → me ≡ alone (seen Nothing) → Allows (RingsHold ends) slots id me i (λ x. x) (counts (step slots i 0 0 none) me)
     allows_count me is_me =

@@ -32,8 +32,8 @@ leaves : (a a' c : RingSide) (s t : TheCore) → a' ≡ c → c.put.side ≡ a.p
 leaves a a' c s t is same beside = record { number = ap (λ (x : RingSide). x.put.side) is ∙ same; others = beside }
 
 looked_leaves : (s : TheCore) (a a' : RingSide) (t : TheCore) → LooksForRoom s a a' t → LeavesOthers a a' s t
-looked_leaves s a a' t (inl (is, same)) = leaves a a' a s t same refl (one_beside a.put.side s t Missed is)
-looked_leaves s a a' t (inr (control, is, same)) = leaves a a' (counting a control) s t same refl (one_beside a.put.side s t (Found control) is)
+looked_leaves s a a' t (inl (is, same, _)) = leaves a a' a s t same refl (one_beside a.put.side s t Missed is)
+looked_leaves s a a' t (inr (control, is, same, _)) = leaves a a' (counting a control) s t same refl (one_beside a.put.side s t (Found control) is)
 
 room_leaves : (need : ℕ) (s : TheCore) (a a' : RingSide) (t : TheCore) → FindsRoom need s a a' t → LeavesOthers a a' s t
 room_leaves need s a a' t h = by (cases_lt (a.known + a.put.cursor.size) (a.put.cursor.index + need))

@@ -1,5 +1,5 @@
 -- The sides of rings, once their core did more.
-use Rattle.std.proofs.Common.{ℕ, ◌≡◌, ◌<◌, ◌≤◌, ◌+◌, ◌^◌, ◌⊎◌, inl, inr, List, [], ◌∷◌, ◌++◌, length, ap, subst, ◌∙◌, sym, refl, arith, true, false, ltb, ltb-true, ltb-false, ◌≢◌, get_or}
+use Rattle.std.proofs.Common.{ℕ, ◌≡◌, ◌<◌, ◌≤◌, ◌+◌, ◌^◌, ◌⊎◌, inl, inr, List, [], ◌∷◌, ◌++◌, length, ap, subst, ◌∙◌, sym, refl, arith, true, false, ltb, ltb-true, ltb-false, ◌≢◌, get_or, Option, Some, None}
 use Rattle.std.proofs.lemmas.List.{length_push}
 use Rattle.std.proofs.lemmas.Bool.{cases_lt}
 use mathlib.Core.Option.{some}
@@ -7,7 +7,8 @@ use lib.ListN.{get_elem?}
 use Rattle.atomic_table.specs.Seated.{TableId}
 use Rattle.atomic_table.proofs.Lists.{at_index}
 use Rattle.fl_base.specs.declared.fragment.Frag.{Frag}
-use Rattle.fl_base.specs.Control.{told_of}
+use Rattle.fl_base.specs.Control.{epoch_of, told_of}
+use Rattle.fl_link.specs.Cursor.{epoch_at}
 use Rattle.fl_ring.specs.Counts.{count_from}
 use Rattle.fl_ring.proofs.Numbers.{count_rises}
 use Rattle.fl_history_rings.specs.declared.board.Action.{Action}
@@ -20,10 +21,10 @@ use Rattle.fl_history_rings.specs.declared.board.Insight.TheVariants.{Nothing}
 use Rattle.fl_history_rings.specs.declared.board.CoreView.{CoreView}
 use Rattle.fl_history_rings.specs.declared.place.RingSide.{RingSide}
 use Rattle.fl_history_rings.specs.Rings.{mate, entry}
-use Rattle.fl_history_rings.specs.Rule.{words_of, at_rest, with_action, core_of, alone, gather, known_from, one_put, one_took, one_found, puts_at, takes_at, known_at, told_at}
+use Rattle.fl_history_rings.specs.Rule.{words_of, at_rest, with_action, core_of, alone, gather, known_from, one_put, one_took, one_found, puts_at, takes_at, known_at, told_at, seen_at}
 use Rattle.fl_history_rings.specs.Seats.{RingsSeat, view_at, IsSeated, CountsWithin}
 use Rattle.fl_history_rings.specs.Cores.{TheCore, core_shown, noting, key_of, IsWhole, IsSameCore, Owns, OwnsSlots}
-use Rattle.fl_history_rings.specs.Sides.{side_from, StepsBy, SideFor, HasFree, LooksForRoom, FindsRoom, counting, having_put, having_taken}
+use Rattle.fl_history_rings.specs.Sides.{side_from, StepsBy, SideFor, HasFree, MayStand, LooksForRoom, FindsRoom, counting, having_put, having_taken}
 use Rattle.fl_history_rings.specs.Laws.{SidesStay}
 use Rattle.fl_history_rings.proofs.Logs.{within, same_there, gather_here, gather_else, not_gathered, known_push}
 use Rattle.fl_history_rings.proofs.Told.{told_put, told_else, told_still, told_taken}
@@ -234,13 +235,39 @@ module _ (ends : List SideEnd) (old new : RingsSeat) (a : RingSide) (same : new.
     noted_so old new s (Put frag) is same,
   )
 
+-- what a look for room finds, where a fragment was seen before
+seen_none : (seen : Option Frag) → ((frag : Frag) → seen ≡ Some frag → (let none : Option ℕ = None in none ≡ Some frag.control)) → (let nothing : Option Frag = None in seen ≡ nothing)
+seen_none None again = refl
+seen_none (Some frag) again = let no = again frag refl in absurd (cc)
+
+some_same : (x y : ℕ) → (let a : Option ℕ = Some x in a ≡ Some y) → y ≡ x
+some_same x y same = cc
+
+module _ (a : RingSide) (es : List Entry) (one : a.take.side ≡ a.put.side) where
+  pub none_seen : ((frag : Frag) → seen_at a.take.side es ≡ Some frag → (let none : Option ℕ = None in none ≡ Some frag.control)) → (let nothing : Option Frag = None in seen_at a.put.side es ≡ nothing)
+  none_seen again = seen_none (seen_at a.put.side es) (λ frag was. again frag (ap (λ (s : ℕ). seen_at s es) one ∙ was))
+
+  pub seen_found : (control : ℕ) → ((frag : Frag) → seen_at a.take.side es ≡ Some frag → (let found : Option ℕ = Some control in found ≡ Some frag.control)) → (frag : Frag) → seen_at a.put.side es ≡ Some frag → frag.control ≡ control
+  seen_found control again frag was = some_same control frag.control (again frag (ap (λ (s : ℕ). seen_at s es) one ∙ was))
+
+pub may_stand : (ends : List SideEnd) (seat : RingsSeat) (a : RingSide) → StepsBy ends (view_at seat) a → (control : ℕ) → CountsWithin (view_at seat) a.take.side control → epoch_of control ≡ epoch_at a.take.cursor.size a.take.cursor.index
+    → ((frag : Frag) → seen_at a.put.side (view_at seat).steps ≡ Some frag → frag.control ≡ control) → MayStand (core_shown seat) a control
+may_stand ends seat a at control within_put due seen =
+    let here : CountsWithin (view_at seat) a.put.side control = subst (λ (s : ℕ). CountsWithin (view_at seat) s control) at.one within_put in
+    let known : count_from a.known (told_of control) ≡ count_from (known_at a.put.side (view_at seat).steps) (told_of control) = ap (λ (k : ℕ). count_from k (told_of control)) at.known_is in
+    record {
+      due = due;
+      seen = seen;
+      told_put = subst (λ (k : ℕ). count_from a.known (told_of control) ≤ k) (sym at.put.index_is) (subst (λ (k : ℕ). k ≤ length (puts_at a.put.side (view_at seat).steps)) (sym known) here);
+    }
+
 -- a look for room leaves the places
 pub room_same : (need : ℕ) (s : TheCore) (a a' : RingSide) (t : TheCore) → FindsRoom need s a a' t → a'.put ≡ a.put
 room_same need s a a' t h = by (cases_lt (a.known + a.put.cursor.size) (a.put.cursor.index + need))
   where
     looked : LooksForRoom s a a' t → a'.put ≡ a.put
-    looked (inl (_, same)) = ap (λ (x : RingSide). x.put) same
-    looked (inr (c, _, same)) = ap (λ (x : RingSide). x.put) same
+    looked (inl (_, same, _)) = ap (λ (x : RingSide). x.put) same
+    looked (inr (c, _, same, _)) = ap (λ (x : RingSide). x.put) same
 
     by : (a.known + a.put.cursor.size < a.put.cursor.index + need) ⊎ (a.put.cursor.index + need ≤ a.known + a.put.cursor.size) → a'.put ≡ a.put
     by (inl lacks) = looked (h.by_look lacks)

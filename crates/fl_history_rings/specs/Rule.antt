@@ -383,6 +383,7 @@ abbrev pub counts : Player
 counts st m x m' = CountsSent st m.0 x
     × (IsDueAt st m.0 x → m' ≡ then_did m (taker_at st m.0) (Found x) Nothing)
     × (¬ (IsDueAt st m.0 x) → m' ≡ then_did m (taker_at st m.0) Missed Nothing)
+    × IsSeenControl st m.0 x
 
 -- one payload word more is loaded
 abbrev pub loads_word : Player

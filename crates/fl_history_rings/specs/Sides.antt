@@ -1,7 +1,8 @@
 -- The sides of rings, beside the seat of their core, and what their calls add to what the core did.
-use Rattle.std.specs.Prelude.{ℕ, ◌≡◌, ◌≢◌, ◌+◌, ◌-◌, ◌/◌, ◌%◌, ◌≤◌, ◌<◌, ◌^◌, ◌⊎◌, List}
+use Rattle.std.specs.Prelude.{ℕ, ◌≡◌, ◌≢◌, ◌+◌, ◌-◌, ◌/◌, ◌%◌, ◌≤◌, ◌<◌, ◌^◌, ◌⊎◌, ◌&&◌}
+use Rattle.std.specs.Prelude.{Bool, nat_lt, nat_le, List, Some, None}
 use Rattle.fl_base.specs.declared.fragment.Frag.{Frag}
-use Rattle.fl_base.specs.Control.{stamped, told_of}
+use Rattle.fl_base.specs.Control.{epoch_of, stamped, told_of}
 use Rattle.fl_link.specs.Cursor.{epoch_at}
 use Rattle.fl_ring.specs.Counts.{count_from}
 use Rattle.fl_history_rings.specs.declared.board.Action.TheVariants.{Put, Found, Missed, Saw, Took}
@@ -10,7 +11,7 @@ use Rattle.fl_history_rings.specs.declared.board.CoreView.{CoreView}
 use Rattle.fl_history_rings.specs.declared.place.SlotPlace.{SlotPlace}
 use Rattle.fl_history_rings.specs.declared.place.RingSide.{RingSide}
 use Rattle.fl_history_rings.specs.Rings.{mate}
-use Rattle.fl_history_rings.specs.Rule.{first_word, known_at, told_at, at_rest}
+use Rattle.fl_history_rings.specs.Rule.{first_word, known_at, told_at, seen_at, at_rest}
 use Rattle.fl_history_rings.specs.Seats.{IsPutPlace, IsTakePlace}
 use Rattle.fl_history_rings.specs.Cores.{TheCore, noting}
 
@@ -46,6 +47,15 @@ pub record StepsBy (ends : List SideEnd) (h : CoreView) (a : RingSide) : Type 0 
 abbrev pub SideFor : TheCore → RingSide → Type 0
 SideFor s a = StepsBy s.sides (at_rest s.sides s.number s.steps) a
 
+-- it put what it knows to be taken, and no round more
+abbrev pub IsNear : RingSide → Type 0
+IsNear a = (a.known ≤ a.put.cursor.index) × (a.put.cursor.index ≤ a.known + a.put.cursor.size)
+
+-- whether data would find room, by what the side knows
+abbrev pub has_room : RingSide → Bool
+has_room a = nat_lt a.put.cursor.index (2 ^ 62)
+    && nat_le 2 (a.put.cursor.size + a.known - a.put.cursor.index)
+
 -- so many slots are free by what the side knows, or fewer are
 abbrev pub HasFree : ℕ → RingSide → Type 0
 HasFree need a = a.put.cursor.index + need ≤ a.known + a.put.cursor.size
@@ -57,10 +67,19 @@ LacksFree need a = a.known + a.put.cursor.size < a.put.cursor.index + need
 abbrev pub counting : RingSide → ℕ → RingSide
 counting a control = record a { known = count_from a.known (told_of control) }
 
--- a look at what stands first: nothing does, or a fragment whose control word tells a count
+-- A fragment with this control word may stand first for the side: it has the epoch due, and is that of the
+-- fragment that the side has seen and not taken, if there is one; what it tells to be taken the side put.
+pub record MayStand (s : TheCore) (a : RingSide) (control : ℕ) : Type 0 where
+  pub due : epoch_of control ≡ epoch_at a.take.cursor.size a.take.cursor.index
+  pub seen : (frag : Frag) → seen_at a.put.side s.steps ≡ Some frag → frag.control ≡ control
+  pub told_put : count_from a.known (told_of control) ≤ a.put.cursor.index
+
+-- a look at what stands first: nothing does, and none was seen, or a fragment whose control word tells a count
 abbrev pub LooksForRoom : TheCore → RingSide → RingSide → TheCore → Type 0
-LooksForRoom s a a' t = ((t ≡ noting s a.put.side Missed) × (a' ≡ a))
-    ⊎ ((control : ℕ) × (t ≡ noting s a.put.side (Found control)) × (a' ≡ counting a control))
+LooksForRoom s a a' t =
+    ((t ≡ noting s a.put.side Missed) × (a' ≡ a) × (seen_at a.put.side s.steps ≡ None))
+    ⊎ ((control : ℕ) × (t ≡ noting s a.put.side (Found control)) × (a' ≡ counting a control)
+    × MayStand s a control)
 
 -- The side counts its free slots. It looks only where what it knows leaves too few.
 pub record FindsRoom (need : ℕ) (s : TheCore) (a a' : RingSide) (t : TheCore) : Type 0 where

@@ -184,7 +184,7 @@ impl RingsCore {
     ///
     /// # Errors
     /// There is so much to tell, and the side has put 2^62 fragments, or no slot is known to be free, also
-    /// after a look (both E30, never E33): nothing was put.
+    /// after a look (both E30, never E33): nothing was put. A side that has put 2^62 fragments does nothing.
     pub fn tell(&mut self, side: &mut RingSide) -> Result<Told, PutFault>
         requires mine { SideFor self.old side.old }
         ensures same { IsSameCore self.old self.new }
@@ -197,6 +197,7 @@ impl RingsCore {
         ensures full { result ≡ Err PutFault.Full → FindsNone 1 self.old side.old side.new self.new
             ⊎ (Stays self.old side.old side.new self.new × IsSpent side.old) }
         ensures some { result ≢ Ok Told.Nothing → TellsSome side.old }
+        ensures spent { IsSpent side.old → Stays self.old side.old side.new self.new }
         ensures never_spent { result ≢ Err PutFault.Spent }
     {
         side.tell(&self.board.table.shared, &mut self.seat)

@@ -156,6 +156,7 @@ impl RingSide {
             → FindsNone 1 (core_shown seat.old) self.old self.new (core_shown seat.new)
             ⊎ (Stays (core_shown seat.old) self.old self.new (core_shown seat.new) × IsSpent self.old) }
         ensures some { result ≢ Ok Told.Nothing → TellsSome self.old }
+        ensures spent { IsSpent self.old → Stays (core_shown seat.old) self.old self.new (core_shown seat.new) }
         ensures never_spent { result ≢ Err PutFault.Spent }
     {
         let unacknowledged = self.take.cursor.index() - self.told;

@@ -80,7 +80,10 @@ pub(crate) fn count(top: &RingsShared, seat: &mut RingsSeat, place: &SlotPlace) 
     ensures found { MatchOption result
         (HasDone seat.old place.now.side Missed seat.new)
         (λ c. HasDone seat.old place.now.side (Found c) seat.new
-        × CountsWithin (view_at seat.old) place.now.side c) }
+        × CountsWithin (view_at seat.old) place.now.side c
+        × (epoch_of c ≡ epoch_at place.now.cursor.size place.now.cursor.index)) }
+    ensures again { (frag : Frag) → seen_at place.now.side (view_at seat.old).steps ≡ Some frag
+        → result ≡ Some frag.control }
 {
     let control = top.load::<Count>(seat, place.word(7));
     if epoch_of(control) != place.cursor.epoch() {

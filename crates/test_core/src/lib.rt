@@ -6,6 +6,7 @@
 //! - `monitor.rt`: monitors' messages, what a monitor lets open, and names
 //! - `counters.rt`: what running cores tell one another
 //! - `operations.rt`: what C asks of handles, by number
+//! - `history_sides.rt`: a core's sides at one table, lent by number
 //! - `faults.rt`: the numbers and the words of faults; `texts.rt`: programs of texts
 //!
 //! `rt try --test --fail-alloc N` runs each with its Nth allocation refused: then the test whose name ends in
@@ -20,6 +21,8 @@ mod end_rows;
 mod endpoint;
 #[cfg(test)]
 mod faults;
+#[cfg(test)]
+mod history_sides;
 #[cfg(test)]
 mod monitor;
 #[cfg(test)]

@@ -37,3 +37,6 @@ returns-clause-full c = λ e.
 
 pub returns-clause-beside : goal.returns-clause-beside
 returns-clause-beside c = subst (λ (s : TheCore). LeavesOthers c.args.side.now c.tell.new.self s (core_shown c.tell.new.seat)) c.self.view_is (tell_leaves c.tell.result (core_shown c.self.inside.seat) c.args.side.now c.tell.new.self (core_shown c.tell.new.seat) c.tell.ensures.nothing c.tell.ensures.written c.tell.ensures.full c.tell.ensures.never_spent)
+
+pub returns-clause-spent : goal.returns-clause-spent
+returns-clause-spent c = λ e. let kept = c.tell.ensures.spent e in (kept.0 ∙ c.self.view_is, kept.1)

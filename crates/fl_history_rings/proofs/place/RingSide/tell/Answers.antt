@@ -20,6 +20,7 @@ returns-then-unacknowledged-size c = record {
   written = λ e. absurd (cc);
   full = λ e. absurd (cc);
   some = λ ne. absurd (ne refl);
+  spent = λ _. (refl, refl);
   never_spent = λ e. absurd (cc);
 }
 
@@ -35,6 +36,7 @@ returns-then-index-eq-SPENT c =
       written = λ e. absurd (cc);
       full = λ e. inr ((refl, refl), sym same ∙ c.if-index-eq-SPENT.true);
       some = λ _. omega (arith, c.if-unacknowledged-size.false, c.index.ensures.index, c.size.ensures.size);
+      spent = λ _. (refl, refl);
       never_spent = λ e. absurd (cc);
     }
 
@@ -53,6 +55,7 @@ returns-then-not-find_room c =
       written = λ e. absurd (cc);
       full = λ e. inl (f.looked, f.full c.if-not-find_room.true);
       some = λ _. omega (arith, c.if-unacknowledged-size.false, c.index.ensures.index, c.size.ensures.size);
+      spent = λ e. absurd (c.if-index-eq-SPENT.false (c.index-index.ensures.index ∙ e));
       never_spent = λ e. absurd (cc);
     }
 
@@ -79,5 +82,6 @@ returns c =
       written = λ _. (between, mid, f.looked, f.room c.if-not-find_room.false, w.noted ∙ ap (λ (p : SlotPlace). noting between p.side (Put (put_by mid acknowledgement))) (room_same 1 _ _ _ _ f.looked), w.side);
       full = λ e. absurd (cc);
       some = λ _. omega (arith, c.if-unacknowledged-size.false, c.index.ensures.index, c.size.ensures.size);
+      spent = λ e. absurd (c.if-index-eq-SPENT.false (c.index-index.ensures.index ∙ e));
       never_spent = λ e. absurd (cc);
     }

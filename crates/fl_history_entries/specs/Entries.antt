@@ -1,0 +1,35 @@
+-- What a core at a table of rings does step by step where an event of its log happens.
+use Rattle.std.specs.Prelude.{ℕ, ◌≡◌, List, ◌++◌, slice_get, Some}
+use Rattle.fl_base.specs.declared.fragment.Frag.{Frag}
+use Rattle.fl_hop.specs.declared.forward.ForwardOutcome.TheVariants.{Moved}
+use Rattle.fl_core.specs.declared.wiring.Inlet.TheVariants as inlet
+use Rattle.fl_core.specs.View.{place_of, inlet_of}
+use Rattle.fl_core_run.specs.Run.{SideRelations, ways, TheRun}
+use Rattle.fl_core_run.specs.LogEntries.{LogEntry, passed, turned}
+use Rattle.fl_history_rings.specs.declared.board.Entry.{Entry}
+use Rattle.fl_history_rings.specs.Cores.{TheCore}
+use Rattle.fl_history_sides.specs.States.{TheHistorySide}
+use Rattle.fl_history_sides.specs.Noted.{HistoryPuts, HistoryTakes, front_of}
+use Rattle.fl_history_events.specs.Events.{IsEventAfter}
+
+-- how a running core steps over sides of one table
+abbrev pub history_sides : SideRelations TheHistorySide
+history_sides = ways HistoryPuts HistoryTakes front_of
+
+-- From c on a core did more, as d: these steps, which can be had at one moment.
+pub record DidAnEvent (c d : TheCore) : Type 0 where
+  pub steps : List Entry
+  pub did : d.steps ≡ c.steps ++ steps
+  pub is_event : IsEventAfter c.steps steps
+
+-- a fragment was seen at this side, and not taken
+abbrev pub HasSeen : TheRun TheHistorySide → ℕ → Type 0
+HasSeen s n = (p : TheHistorySide) × (frag : Frag) × (slice_get s.rings n ≡ Some p) × (p.side.peeked ≡ Some frag)
+
+-- What is known where a log goes on with this: a fragment that passes on was seen, and a turn looks at the side
+-- from which its end takes.
+abbrev pub MayComeNext : LogEntry → TheRun TheHistorySide → Type 0
+MayComeNext (passed n m frag c Moved) s = HasSeen s n
+MayComeNext (turned d name (inlet.Side n) answer) s =
+    (e : ℕ) → place_of s.core name ≡ Some e → inlet_of s.core e ≡ Some (inlet.Side n)
+MayComeNext log_entry s = Unit {0}

@@ -1,0 +1,3 @@
+pub mod Facing
+pub mod Moments
+pub mod Laws

@@ -1,0 +1,11 @@
+pub mod Until
+pub mod Steps
+pub mod Lists
+pub mod Calls
+pub mod Puts
+pub mod Takes
+pub mod OneLent
+pub mod Made
+pub mod Prefixes
+pub mod Laws
+pub mod Follow

@@ -1,0 +1,8 @@
+use Rattle.std.proofs.Common.{◌∙◌}
+use Rattle.fl_history_sides.proofs.OneLent.{told_so}
+use Rattle.fl_history_sides.proofs.lent.LentSidePutSide.next_told.Goals as goal
+
+pub returns : goal.returns
+returns c =
+    let i = c.self.inside in
+    record { told = c.next_told.ensures.told ∙ told_so i.core i.sides.items i.at c.index.result.now c.index.ensures c.self.invariant c.args.self.now c.self.view_is }

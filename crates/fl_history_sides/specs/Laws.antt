@@ -1,0 +1,31 @@
+-- What is told of a core's sides. Laws.
+use Rattle.std.specs.Prelude.{ℕ, ◌≡◌, ◌⊎◌, List, [], slice_get, slice_set, Some}
+use Rattle.fl_link.specs.Looks.{Look, Looks, LinkStep}
+use Rattle.fl_ring.specs.SharedSides.{SharedPuts, SharedTakes}
+use Rattle.fl_history_rings.specs.declared.board.Action.{Action}
+use Rattle.fl_history_rings.specs.Cores.{TheCore, IsSameCore}
+use Rattle.fl_history_sides.specs.States.{TheHistorySide}
+use Rattle.fl_history_sides.specs.Noted.{HistoryPuts, HistoryTakes, GoesOn, noting_all}
+use Rattle.fl_history_sides.specs.Core.{AreSidesOf}
+
+-- Law: what a side does in a row, a side of a ring that has a table of its own does.
+abbrev pub SidesAreShared : Type 0
+SidesAreShared = (p q : TheHistorySide) (looks : List Look) → Looks (LinkStep HistoryPuts HistoryTakes) p looks q
+    → Looks (LinkStep SharedPuts SharedTakes) p.side looks q.side
+
+-- Law: whatever a side does, it keeps its number, and its core is the same, which may have done more.
+abbrev pub SidesStay : Type 0
+SidesStay = (p q : TheHistorySide) (looks : List Look) → Looks (LinkStep HistoryPuts HistoryTakes) p looks q
+    → (q.number ≡ p.number) × IsSameCore p.core q.core
+
+-- Law: a core that did something is as one of its sides tells.
+abbrev pub OneTellsAll : Type 0
+OneTellsAll = (c : TheCore) (ss : List TheHistorySide) → AreSidesOf c ss
+    → (c.steps ≡ []) ⊎ ((n : ℕ) × (p : TheHistorySide) × (slice_get ss n ≡ Some p) × (p.core ≡ c))
+
+-- Law: where one side of a core goes on by these actions and the others stay, the core did just these.
+abbrev pub CoresFollow : Type 0
+CoresFollow = (c d : TheCore) (ss : List TheHistorySide) (n : ℕ) (p q : TheHistorySide) (did : List Action)
+    → AreSidesOf c ss → AreSidesOf d (slice_set ss n q) → slice_get ss n ≡ Some p
+    → q.number ≡ p.number → GoesOn p.number p.core did q.core
+    → d ≡ noting_all c p.number did

@@ -1,0 +1,7 @@
+-- The promises rest on States, Noted, Core and Laws; Lent is the code's own, and Given has proofs.
+pub mod States
+pub mod Noted
+pub mod Lent
+pub mod Given
+pub mod Core
+pub mod Laws

@@ -1,0 +1,24 @@
+//! What the sides of a core tell of it: laws, as contracts of functions that do nothing.
+
+ghost use Rattle.fl_history_sides.specs.Laws.{SidesAreShared, SidesStay, OneTellsAll, CoresFollow};
+
+/// What a side of a core does in a row, a side of a ring that has a table of its own does.
+pub fn law_sides_are_shared()
+    ensures shared { SidesAreShared }
+{}
+
+/// Whatever a side does, it stays a side of its core, under its number.
+pub fn law_sides_stay()
+    ensures stay { SidesStay }
+{}
+
+/// A core that did something is as one of its sides tells: what each of them tells is a prefix of that.
+pub fn law_one_tells_all()
+    ensures tells { OneTellsAll }
+{}
+
+/// Where one side of a core goes on and the others stay, the core did what that side noted, behind all that
+/// it had done.
+pub fn law_cores_follow()
+    ensures follow { CoresFollow }
+{}
