@@ -1,21 +1,18 @@
 -- What one order of all that cores did tells of the two sides of a ring.
-use Rattle.std.proofs.Common.{ℕ, zero, suc, ◌≡◌, ◌≢◌, ◌≤◌, ◌+◌, ◌==◌, ◌⊎◌, inl, inr, Bool, true, false, if◌then◌else◌, eq-eqb, ne_eqb, List, [], ◌∷◌, ◌++◌, length, map, ap, subst, ◌∙◌, sym, refl, arith, length-append, append-nil}
+use Rattle.std.proofs.Common.{ℕ, zero, suc, ◌≡◌, ◌≤◌, ◌==◌, Bool, true, false, if◌then◌else◌, eq-eqb, ne_eqb, List, [], ◌∷◌, ◌++◌, length, map, ap, subst, ◌∙◌, sym, refl, arith, length-append, append-nil}
 use Rattle.std.proofs.lemmas.Bool.{false≢true}
 use Rattle.std.specs.List.{AllByRecursion}
-use mathlib.Core.Logic.{dite}
 use mathlib.Core.Option.{some}
-use native.Mathlib.Decide.{ℕ_discrete}
 use lib.ListN.{get_elem?}
 use Rattle.fl_base.specs.declared.fragment.Frag.{Frag}
 use Rattle.fl_base.specs.Prefix.{IsPrefix}
-use Rattle.fl_ring.specs.SharedSides.{TheSide, SidesNear}
+use Rattle.fl_ring.specs.SharedSides.{TheSide}
 use Rattle.fl_history_rings.specs.declared.board.Action.{Action}
 use Rattle.fl_history_rings.specs.declared.board.Entry.{Entry}
 use Rattle.fl_history_rings.specs.declared.board.SideEnd.{SideEnd}
 use Rattle.fl_history_rings.specs.declared.place.RingSide.{RingSide}
-use Rattle.fl_history_rings.specs.Rings.{mate, IsByItsCore, steps_of}
-use Rattle.fl_history_rings.specs.Rule.{ArePaired, gather, known_from, told_from, one_found, one_action, puts_at, takes_at, known_at, told_at}
-use Rattle.fl_history_rings.specs.Seats.{HaveSlots}
+use Rattle.fl_history_rings.specs.Rings.{mate, steps_of}
+use Rattle.fl_history_rings.specs.Rule.{gather, known_from, told_from, one_found, one_action, puts_at, takes_at, known_at, told_at}
 use Rattle.fl_history_rings.specs.Cores.{TheCore, InOneOrder}
 use Rattle.fl_history_rings.specs.Sides.{SideFor}
 use Rattle.fl_history_rings.proofs.Logs.{same_there, else_is}
@@ -23,7 +20,7 @@ use Rattle.fl_history_rings.proofs.Words.{mate_back}
 use Rattle.fl_history_rings.proofs.Told.{told_taken}
 use Rattle.fl_history_rings.proofs.Laws.{taken_is_prefix}
 use Rattle.fl_history_rings.proofs.Known.{known_taken}
-use Rattle.fl_history_sides.specs.States.{TheHistorySide, side_after, side_shown, shown_of}
+use Rattle.fl_history_sides.specs.States.{TheHistorySide, side_after, side_shown}
 use Rattle.fl_history_sides.specs.Core.{IsOwnSide}
 use Rattle.fl_history_sides.specs.Laws.{RingsAreNear}
 use Rattle.fl_history_sides.proofs.Calls.{Counts, counts_of}
