@@ -9,3 +9,4 @@ pub mod Made
 pub mod Prefixes
 pub mod Laws
 pub mod Follow
+pub mod Near

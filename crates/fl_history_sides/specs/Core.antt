@@ -1,7 +1,10 @@
 -- A core and all its sides.
-use Rattle.std.specs.Prelude.{ℕ, ◌≡◌, List, slice_get, Some}
+use Rattle.std.specs.Prelude.{ℕ, ◌≡◌, List, slice_get, Some, ◌≤◌, ◌+◌, length}
 use Rattle.std.specs.List.{AllByRecursion}
+use mathlib.Core.Option.{some}
+use lib.ListN.{get_elem?}
 use Rattle.fl_history_rings.specs.declared.board.Entry.{Entry}
+use Rattle.fl_history_rings.specs.declared.board.SideEnd.{SideEnd}
 use Rattle.fl_history_rings.specs.Cores.{TheCore}
 use Rattle.fl_history_sides.specs.States.{TheHistorySide, shown_of, numbers_of}
 
@@ -18,6 +21,15 @@ pub record AreSidesOf (c : TheCore) (ss : List TheHistorySide) : Type 0 where
   pub each : AllByRecursion (λ p. p ≡ shown_of c p.side.size p.number) ss
   pub apart : IsDistinct (numbers_of ss)
   pub did : AllByRecursion (IsStepBy c.number (numbers_of ss)) c.steps
+
+-- The side is this core's, and has the slots of its ring. It put what it knows to be taken, and no round more.
+pub record IsOwnSide (c : TheCore) (p : TheHistorySide) : Type 0 where
+  pub end : SideEnd
+  pub there : get_elem? c.sides p.number ≡ some end
+  pub mine : end.core ≡ c.number
+  pub slots : p.side.size ≡ end.slots
+  pub known_put : p.side.known ≤ length p.side.sent
+  pub near : length p.side.sent ≤ p.side.known + p.side.size
 
 -- these are sides of one core, and show all that it did
 abbrev pub AreOfOneCore : List TheHistorySide → Type 0

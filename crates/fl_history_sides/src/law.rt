@@ -1,6 +1,6 @@
 //! What the sides of a core tell of it: laws, as contracts of functions that do nothing.
 
-ghost use Rattle.fl_history_sides.specs.Laws.{SidesAreShared, SidesStay, OneTellsAll, CoresFollow};
+ghost use Rattle.fl_history_sides.specs.Laws.{SidesAreShared, SidesStay, OneTellsAll, CoresFollow, RingsAreNear};
 
 /// What a side of a core does in a row, a side of a ring that has a table of its own does.
 pub fn law_sides_are_shared()
@@ -21,4 +21,10 @@ pub fn law_one_tells_all()
 /// it had done.
 pub fn law_cores_follow()
     ensures follow { CoresFollow }
+{}
+
+/// Of a ring whose two cores are gathered, what one side took is the first of what the other put, and what one
+/// knows to be taken was taken.
+pub fn law_rings_are_near()
+    ensures near { RingsAreNear }
 {}

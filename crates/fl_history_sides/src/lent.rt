@@ -1,11 +1,12 @@
 //! A core with its sides, while one of them is lent.
 
 ghost use Rattle.std.specs.Prelude.{◌≡◌, ◌≢◌, ◌<◌, ℕ, Ok, Err, OnOk, false, length};
+ghost use Rattle.std.specs.List.{AllByRecursion};
 ghost use Rattle.fl_base.specs.declared.fragment.Frag.{Frag};
 ghost use Rattle.fl_base.specs.Control.{is_ack_only, bare};
 ghost use Rattle.fl_history_sides.specs.Lent.{LentPuts, LentTakes, lent_has_room, lent_epoch, lent_told};
 ghost use Rattle.fl_history_sides.specs.Lent.{lent_known, state_of, states_of, sight_in};
-ghost use Rattle.fl_history_sides.specs.Core.{AreSidesOf};
+ghost use Rattle.fl_history_sides.specs.Core.{AreSidesOf, IsOwnSide};
 ghost use Rattle.fl_history_sides.specs.Noted.{front_of};
 
 use fl_base::Frag;
@@ -124,6 +125,7 @@ impl LentSide {
     pub(crate) fn into_core(self) -> RingsCore
         ensures some { 0 < length (states_of self) }
         ensures core { AreSidesOf result (states_of self) }
+        ensures own { AllByRecursion (IsOwnSide result) (states_of self) }
     {
         let LentSide {
             core,

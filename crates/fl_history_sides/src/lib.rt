@@ -18,6 +18,8 @@ mod law;
 mod lent;
 mod sides;
 
-pub use law::{law_cores_follow, law_one_tells_all, law_sides_are_shared, law_sides_stay};
+pub use law::{
+    law_cores_follow, law_one_tells_all, law_rings_are_near, law_sides_are_shared, law_sides_stay,
+};
 pub use lent::LentSide;
 pub use sides::HistorySides;

@@ -6,7 +6,7 @@ ghost use Rattle.fl_history_rings.specs.Cores.{Owns};
 ghost use Rattle.fl_history_sides.specs.States.{TheHistorySide, first_shown};
 ghost use Rattle.fl_history_sides.specs.Noted.{HistoryPuts, HistoryTakes, front_of};
 ghost use Rattle.fl_history_sides.specs.Lent.{TheRest, AreFirst, state_of, rest_of, states_in, Lends};
-ghost use Rattle.fl_history_sides.specs.Core.{IsDistinct, AreSidesOf, AreOfOneCore};
+ghost use Rattle.fl_history_sides.specs.Core.{IsDistinct, IsOwnSide, AreSidesOf, AreOfOneCore};
 
 use crate::lent::LentSide;
 use fl_core_run::CoreSides;
@@ -71,7 +71,8 @@ impl HistorySides {
     /// The core again, where it has sides.
     pub fn into_core(self) -> Option<RingsCore>
         ensures core { MatchOption result (states_in self.lent ≡ [])
-            (λ core. (0 < length (states_in self.lent)) × AreSidesOf core (states_in self.lent)) }
+            (λ core. (0 < length (states_in self.lent)) × AreSidesOf core (states_in self.lent)
+            × AllByRecursion (IsOwnSide core) (states_in self.lent)) }
     {
         let HistorySides { lent } = self;
         let lent = lent?;
