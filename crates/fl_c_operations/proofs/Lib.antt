@@ -1,4 +1,5 @@
 mod After
+mod Codecs
 mod Transmissions
 mod Gives
 mod HandleSends
