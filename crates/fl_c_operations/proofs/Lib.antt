@@ -1,5 +1,5 @@
 mod After
-mod Codecs
+mod Coded
 mod Transmissions
 mod Gives
 mod HandleSends

@@ -5,6 +5,8 @@ use Rattle.std.specs.Option.{option_map}
 use Rattle.std.specs.Cmp.{second_so}
 use Rattle.std.proofs.lemmas.Bool.{eqb-true, ne_eqb}
 use Rattle.fl_base.specs.declared.fragment.Frag.{Frag}
+use Rattle.fl_base.specs.Control.{bare}
+use Rattle.fl_interface.specs.Limits.{is_within_limits}
 use Rattle.fl_value_data.specs.Value.{TheCall, call_of}
 use Rattle.fl_value_data.specs.Fits.{fits_of}
 use Rattle.fl_link.specs.Looks.{Look}
@@ -23,7 +25,8 @@ use Rattle.fl_endpoint.specs.Accounts.{Sound}
 use Rattle.fl_endpoint.specs.Stored.{IsOwn}
 use Rattle.fl_c_operations.proofs.Sent.{some_frags, idle_end, has_room, standing}
 use Rattle.fl_c_operations.specs.Codecs.{AreCodecs}
-use Rattle.fl_c_operations.specs.Shorts.{AreNoShorts}
+use Rattle.fl_c_operations.specs.Shorts.{IsFragOfTape, AreNoShorts}
+use Rattle.fl_c_operations.proofs.Shorts.{message_told}
 use Rattle.fl_c_operations.specs.Transmissions.{calls_left, all_of, with_outgoing, transmitting_frag, transmitting, Transmits, MayTransmit, holds_all, IsFragFrom, IsShortAt, IsNoShortAt}
 
 -- ---- what is to be sent
@@ -328,6 +331,15 @@ taken_transmitting (Some g) s msg tape f h = record { short = h.short; rule = h.
 pub no_short_transmitting : (p : Option Frag) (s : TheEnd) (f : Frag) → IsNoShortAt s f → IsNoShortAt (transmitting p s) f
 no_short_transmitting None s f h = h
 no_short_transmitting (Some g) s f h = h
+
+-- there is a reply to the call by rule
+pub ruled : (s : TheEnd) (f : Frag) (msg reply : ℕ) (tape : List ℕ) → is_within_limits (interface_in s) ≡ true → IsFragOfTape (program_of s.program) 0 msg tape (bare f) → Some reply ≡ rule_at s.rules msg
+    → IsNoShortAt s (bare f)
+ruled s f msg reply tape within (e, has, only) rule d fits same none =
+    let x = program_of s.program in
+    let at : d.msg ≡ msg = sym (message_told x d f within fits same) ∙ message_told x e f within has.fits only ∙ has.message in
+    let gone : Some reply ≡ None = rule ∙ ap (rule_at s.rules) (sym at) ∙ none in
+    absurd (cc)
 
 more_than : (us : List Frag) (ws : List (List Frag)) → length (calls_left us ws) ≤ length ws + 1
 more_than [] ws = omega arith

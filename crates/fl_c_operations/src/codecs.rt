@@ -15,10 +15,7 @@ use std::alloc::{AllocError, Global};
 ///
 /// # Errors
 /// Out of memory (E99).
-pub(crate) fn codecs_of(
-    alloc: Global,
-    program: &Program,
-) -> Result<Vec<Option<Codec>>, AllocError>
+pub(crate) fn codecs_of(alloc: Global, program: &Program) -> Result<Vec<Option<Codec>>, AllocError>
     ensures codecs { IfOk result (λ codecs. AreCodecs (program_of program.now) codecs.items) }
 {
     let interface = program.interface();

@@ -1,9 +1,10 @@
 -- The codecs of a program's messages, one by one.
-use Rattle.std.proofs.Common.{◌≡◌, ℕ, zero, suc, ◌+◌, ◌<◌, ◌≤◌, ◌⊎◌, inl, inr, ⊎_elim, false, true, List, [], ◌∷◌, ◌++◌, length, get_or, refl, sym, ◌∙◌, ap, subst, arith, length-append}
+use Rattle.std.proofs.Common.{◌≡◌, ℕ, zero, suc, ◌+◌, ◌≤◌, ◌⊎◌, inl, inr, ⊎_elim, false, true, List, [], ◌∷◌, ◌++◌, length, get_or, refl, sym, ◌∙◌, ap, subst, arith, length-append}
 use Rattle.std.specs.Prelude.{Option, Some, None, slice_get, nat_lt, IfSome, IfNone}
 use Rattle.std.proofs.lemmas.Bool.{ltb-true, ltb-false}
 use Rattle.std.proofs.lemmas.Option.{slice_get_past, slice_get_read}
-use Rattle.fl_interface.specs.Interface.{TheMessage, TheInterface}
+use Rattle.fl_interface.specs.Interface.{TheInterface}
+use Rattle.fl_interface.specs.Limits.{is_within_limits}
 use Rattle.fl_value_data.specs.declared.value.PlanNo.{PlanNo}
 use Rattle.fl_compile.specs.Programs.{TheProgram}
 use Rattle.fl_codec.specs.declared.codec.Codec.{Codec}
@@ -43,9 +44,9 @@ one_more : (x : TheProgram) (k : ℕ) (codecs new : List (Option Codec)) (o : Op
 one_more x k codecs new o h pushed at =
     let each : (j : ℕ) (c : Option Codec) → slice_get (codecs ++ o ∷ []) j ≡ Some c → IsCodecAt x j c
     = λ j c there. ⊎_elim
-        (λ (before : slice_get codecs j ≡ Some c). each_coded x k codecs h j c before)
-        (λ (last : (length codecs ≡ j) × (o ≡ c)). subst (IsCodecAt x j) last.1 (subst (λ (n : ℕ). IsCodecAt x n o) (sym h.many ∙ last.0) at))
-        (last_or_before codecs o j c there) in
+    (λ (before : slice_get codecs j ≡ Some c). each_coded x k codecs h j c before)
+    (λ (last : (length codecs ≡ j) × (o ≡ c)). subst (IsCodecAt x j) last.1 (subst (λ (n : ℕ). IsCodecAt x n o) (sym h.many ∙ last.0) at))
+    (last_or_before codecs o j c there) in
     let so : AreFirstCodecs x (k + 1) (codecs ++ o ∷ []) = record {
       many = length-append codecs (o ∷ []) ∙ ap (λ (n : ℕ). n + 1) h.many;
       some = λ j c there. each j (Some c) there;
@@ -62,6 +63,14 @@ next_coded x plan i k msg codecs new o e p at h pushed some none =
     let none_in = subst (λ (n : ℕ). IfNone o (has_few_numbers (slice_get x.interface.messages n) ≡ false)) at
     (subst (λ (j : TheInterface). IfNone o (has_few_numbers (slice_get j.messages msg) ≡ false)) e none) in
     one_more x k codecs new o h pushed (made_at x k o some_in none_in)
+
+-- those of all messages
+pub all_coded : (x : TheProgram) (i : TheInterface) (n : ℕ) (codecs : List (Option Codec)) → i ≡ x.interface → n ≡ length i.messages → is_within_limits i ≡ true → AreFirstCodecs x n codecs
+    → AreCodecs x codecs
+all_coded x i n codecs e many within h = record {
+  all = subst (λ (k : ℕ). AreFirstCodecs x k codecs) (many ∙ ap (λ (j : TheInterface). length j.messages) e) h;
+  within = subst (λ (j : TheInterface). is_within_limits j ≡ true) e within;
+}
 
 -- a codec, or none, as it is found
 pub coded_at : (x : TheProgram) (codecs : List (Option Codec)) (n k : ℕ) (o : Option Codec) → AreCodecs x codecs → n ≡ k → true ≡ nat_lt n (length codecs) → o ≡ get_or codecs n o → IsCodecAt x k o
