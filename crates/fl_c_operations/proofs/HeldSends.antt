@@ -2,7 +2,7 @@
 use denote.RattleType.{RattleType}
 use denote.Struct.Declared.{shape}
 use denote.Param.Send.{IsSend, sendable, recorded_send, struct_send, view_send}
-use Rattle.core.specs.contracts.option.Option.{the_row as OptionOf}
+use Rattle.std.specs.contracts.option.Option.{the_row as OptionOf}
 use Rattle.std.proofs.Crossing.{crosses, Vec-send}
 use Rattle.fl_machine.specs.contracts.reassemblies.Reassemblies
 use Rattle.fl_codec.specs.contracts.codec.Codec
