@@ -1,8 +1,11 @@
 -- What an end as a handle holds it is made of may go to a thread, and so may it.
+use denote.RattleType.{RattleType}
 use denote.Struct.Declared.{shape}
 use denote.Param.Send.{IsSend, sendable, recorded_send, struct_send, view_send}
-use Rattle.std.proofs.Crossing.{crosses}
+use Rattle.std.specs.contracts.option.Option.{the_row as OptionOf}
+use Rattle.std.proofs.Crossing.{crosses, Vec-send}
 use Rattle.fl_machine.specs.contracts.reassemblies.Reassemblies
+use Rattle.fl_codec.specs.contracts.codec.Codec
 use Rattle.fl_endpoint.specs.contracts.end.End
 use Rattle.fl_ring.specs.contracts.shared.duo_sides.SharedSide
 use Rattle.fl_endpoint.specs.View.{TheEnd}
@@ -19,12 +22,16 @@ use Rattle.fl_c_operations.specs.declared.end.HeldEnd as HeldCode
 use Rattle.fl_c_operations.specs.contracts.end.HeldEnd as Held
 use Rattle.fl_c_operations.specs.contracts.end.HeldEnd.TheInside as HeldInside
 
-transmitting_inside : IsSend End.the_row → IsSend TransmittingInside.the_row
-transmitting_inside end = recorded_send (TransmittingInside.the_field).row _ _ (TransmittingInside.the_type).to_one
-    (struct_send (shape TransmittingInside.the_type) (end, (search (sendable, crosses) depth 40, tt)))
+-- what may be missing goes where it goes by itself
+option_sends : (R : RattleType) → IsSend R → IsSend (OptionOf R)
+option_sends R s = search sendable depth 12
 
-pub transmitting_sends : IsSend End.the_row → IsSend Transmitting.the_row
-transmitting_sends end = view_send TransmittingInside.the_row TheEnd TransmittingCode.the_code Transmitting.the_view Transmitting.the_invariant (transmitting_inside end)
+transmitting_inside : IsSend End.the_row → IsSend Codec.the_row → IsSend TransmittingInside.the_row
+transmitting_inside end codec = recorded_send (TransmittingInside.the_field).row _ _ (TransmittingInside.the_type).to_one
+    (struct_send (shape TransmittingInside.the_type) (end, (Vec-send (OptionOf Codec.the_row) (option_sends Codec.the_row codec), (search (sendable, crosses) depth 40, tt))))
+
+pub transmitting_sends : IsSend End.the_row → IsSend Codec.the_row → IsSend Transmitting.the_row
+transmitting_sends end codec = view_send TransmittingInside.the_row TheEnd TransmittingCode.the_code Transmitting.the_view Transmitting.the_invariant (transmitting_inside end codec)
 
 looked_inside : IsSend SharedSide.the_row → IsSend LookedInside.the_row
 looked_inside side = recorded_send (LookedInside.the_field).row _ _ (LookedInside.the_type).to_one

@@ -1,4 +1,5 @@
 mod After
+mod Coded
 mod Transmissions
 mod Gives
 mod HandleSends

@@ -1,6 +1,6 @@
 -- A call that an end handled stays to be read: as it came, or as its numbers.
 use Rattle.std.proofs.Common.{◌≡◌, ℕ, List, [], ◌∷◌, ◌++◌, map, length, Option, Some, None, Result, Ok, Err, refl, sym, ap, subst, ◌∙◌, arith}
-use Rattle.std.specs.Prelude.{slice_get, slice_set, ◌+◌, IsSome}
+use Rattle.std.specs.Prelude.{slice_get, ◌+◌}
 use Rattle.std.specs.Option.{option_map}
 use Rattle.fl_base.specs.declared.fragment.Frag.{Frag}
 use Rattle.fl_base.specs.Control.{bare, body}
@@ -13,7 +13,6 @@ use Rattle.fl_wire.specs.Payload.{frags_of}
 use Rattle.fl_wire.specs.Reading.{OneReading}
 use Rattle.fl_compile.specs.declared.program.Program.{Program}
 use Rattle.fl_compile.specs.Programs.{TheProgram, program_of}
-use Rattle.fl_machine.specs.Reassembling.{TheReassembly}
 use Rattle.fl_endpoint.specs.declared.answer.ReceiveAnswer.{ReceiveAnswer}
 use Rattle.fl_endpoint.specs.declared.answer.ReceiveAnswer.TheVariants.{Handle, Part, Quiet, Empty, HeldBack}
 use Rattle.fl_endpoint.specs.declared.fault.EndFault.{EndFault}
@@ -31,10 +30,6 @@ use Rattle.fl_c_operations.specs.Transmissions.{IsShortAt}
 use Rattle.fl_c_operations.specs.View.{TheHeld, program_of_held, handled_by, IsBetween}
 use Rattle.fl_c_operations.specs.Ends.{received_as, unread_in, ReceivesNext}
 
-set_first : {X : Type 0} (xs : List X) (x y r : X) → slice_get xs 0 ≡ Some x → slice_get (slice_set xs 0 y) 0 ≡ Some r → r ≡ y
-set_first [] x y r e h = absurd (cc)
-set_first (z ∷ xs) x y r e h = let same : y ≡ r = cc in sym same
-
 pub bare_twice : (f : Frag) → bare (bare f) ≡ bare f
 bare_twice f =
     let same : body (body f.control) ≡ body f.control = omega arith in
@@ -42,8 +37,8 @@ bare_twice f =
 
 -- ---- as it came
 
-after_call : (s t : TheEnd) (p q : TheSide) (call : Call) → Receives SharedTakes s p (Ok (Handle call)) t q → (t.program ≡ s.program) × (t.parts ≡ [])
-after_call s t p q call (opened, (f, m, is, sees, gets, (are, t_is))) = (ap (λ (x : TheEnd). x.program) t_is, ap (λ (x : TheEnd). x.parts) t_is)
+after_call : (s t : TheEnd) (p q : TheSide) (call : Call) → Receives SharedTakes s p (Ok (Handle call)) t q → t.program ≡ s.program
+after_call s t p q call (opened, (f, m, is, sees, gets, (are, t_is))) = ap (λ (x : TheEnd). x.program) t_is
 
 pub received_next : (h t : TheHeld) (answer : Result ReceiveAnswer EndFault) (kept : Option UnreadCall) → ReceivesAt SharedTakes (receipt h.end h.side answer t.end t.side) h.calls 0 t.calls
     → kept ≡ unread_in answer → t.handled ≡ handled_by t.end.program kept → ReceivesNext h (received_as answer) t
@@ -57,30 +52,13 @@ received_next h t (Ok (Handle call)) kept r is handled =
         event = record { of = r.event.of; program = r.event.program; takes = r.event.receives };
         after_is = r.after_is;
       },
-      handled ∙ ap (handled_by t.end.program) is ∙ ap (λ (p : Program). Some (numbers_of_call (program_of p) (call_of call))) after.0,
+      handled ∙ ap (handled_by t.end.program) is ∙ ap (λ (p : Program). Some (numbers_of_call (program_of p) (call_of call))) after,
     )
 received_next h t (Ok Part) kept r is handled = (Ok Part, r, refl, handled ∙ ap (handled_by t.end.program) is)
 received_next h t (Ok Quiet) kept r is handled = (Ok Quiet, r, refl, handled ∙ ap (handled_by t.end.program) is)
 received_next h t (Ok Empty) kept r is handled = (Ok Empty, r, refl, handled ∙ ap (handled_by t.end.program) is)
 received_next h t (Ok HeldBack) kept r is handled = (Ok HeldBack, r, refl, handled ∙ ap (handled_by t.end.program) is)
 received_next h t (Err fault) kept r is handled = (Err fault, r, refl, handled ∙ ap (handled_by t.end.program) is)
-
--- nothing is left of a call that was handled
-between_calls : (s t : TheEnd) (p q : TheSide) (calls after : List TheReassembly) (answer : Result ReceiveAnswer EndFault) (kept : UnreadCall) → Some kept ≡ unread_in answer
-    → ReceivesAt SharedTakes (receipt s p answer t q) calls 0 after → IsBetween after
-between_calls s t p q calls after (Ok (Handle got)) kept e h = λ r there.
-    let same = set_first calls h.was h.is r h.was_there (ap (λ (xs : List TheReassembly). slice_get xs 0) (sym h.after_is) ∙ there) in
-    ap (λ (x : TheReassembly). x.parts) same ∙ (after_call (with_parts s h.was.parts) (with_parts t h.is.parts) p q got h.event.receives).1
-between_calls s t p q calls after (Ok Part) kept e h = absurd (cc)
-between_calls s t p q calls after (Ok Quiet) kept e h = absurd (cc)
-between_calls s t p q calls after (Ok Empty) kept e h = absurd (cc)
-between_calls s t p q calls after (Ok HeldBack) kept e h = absurd (cc)
-between_calls s t p q calls after (Err fault) kept e h = absurd (cc)
-
-pub none_left : (s t : TheEnd) (p q : TheSide) (calls after : List TheReassembly) (answer : Result ReceiveAnswer EndFault) (kept : Option UnreadCall) → kept ≡ unread_in answer → IsSome kept
-    → ReceivesAt SharedTakes (receipt s p answer t q) calls 0 after → IsBetween after
-none_left s t p q calls after answer None is some h = absurd cc
-none_left s t p q calls after answer (Some kept) is some h = between_calls s t p q calls after answer kept is h
 
 -- ---- as its numbers
 

@@ -12,7 +12,7 @@ use Rattle.fl_interface.specs.Interface.{TheInterface}
 use Rattle.fl_value_data.specs.declared.value.PlanNo.{PlanNo}
 use Rattle.fl_value_data.specs.Value.{TheCall}
 use Rattle.fl_value_data.specs.Fits.{fits_of}
-use Rattle.fl_layout.specs.Places.{count, count_for}
+use Rattle.fl_layout.specs.Places.{count}
 use Rattle.fl_link.specs.Looks.{Look}
 use Rattle.fl_wire.specs.Payload.{payload_of, frag_on, frags_on, frags_of}
 use Rattle.fl_wire.specs.Reading.{AllFit, OneReading}
@@ -24,7 +24,7 @@ use Rattle.fl_endpoint.specs.View.{TheEnd, TheOutgoing, number_or_0, interface_i
 use Rattle.fl_endpoint.specs.Events.{AreCall, Receives}
 use Rattle.fl_endpoint.specs.Lent.{IsOf, IsPlaceOf, receipt, ReceivesAt}
 use Rattle.fl_endpoint.specs.Accounts.{IsLeft, Sound}
-use Rattle.fl_endpoint.specs.Stored.{payload_frags, IsOwn, AreOwn}
+use Rattle.fl_endpoint.specs.Stored.{IsOwn, AreOwn}
 
 -- ---- a fragment of a call is carried unchanged by every link, and only acknowledges never
 
@@ -51,20 +51,16 @@ own_map : {A : Type 0} (f : A → Frag) (xs : List A) → ((x : A) → IsOwn (f 
 own_map f [] h = tt
 own_map f (x ∷ xs) h = (h x, own_map f xs h)
 
-pub own_frags : (msg circuit : ℕ) (bytes : List ℕ) → msg < 2 ^ 16 → circuit < 2 ^ 16 → AreOwn (payload_frags circuit msg bytes)
-own_frags msg circuit bytes m c = own_map (frag_on circuit msg bytes) (range_with_len 0 (count_for (length bytes))) (λ k. own_frag msg circuit bytes k m c)
+pub own_frags : (circuit : ℕ) (plan : PlanNo) (i : TheInterface) (c : TheCall) → c.msg < 2 ^ 16 → circuit < 2 ^ 16 → AreOwn (frags_on circuit plan i c)
+own_frags circuit plan i c m k =
+    let bytes = payload_of plan i c in
+    own_map (frag_on circuit c.msg bytes) (range_with_len 0 (count plan i c)) (λ n. own_frag c.msg circuit bytes n m k)
 
 -- ---- how many they are
 
-pub length_frags : (circuit : ℕ) (plan : PlanNo) (i : TheInterface) (c : TheCall) → length (frags_on circuit plan i c) ≡ count plan i c
+length_frags : (circuit : ℕ) (plan : PlanNo) (i : TheInterface) (c : TheCall) → length (frags_on circuit plan i c) ≡ count plan i c
 length_frags circuit plan i c =
     length-map (range_with_len 0 (count plan i c)) (frag_on circuit c.msg (payload_of plan i c)) ∙ length-range_with_len 0 (count plan i c)
-
--- a list of one is its first
-pub only_one : {A : Type 0} (xs : List A) (x : A) → Some x ≡ slice_get xs 0 → length xs ≡ 1 → x ∷ [] ≡ xs
-only_one [] x e long = absurd cc
-only_one (y ∷ []) x e long = let h : x ≡ y = cc in ap (λ (z : _). z ∷ []) h
-only_one (y ∷ z ∷ ys) x e long = absurd (omega (arith, long))
 
 -- each call has a fragment at least
 pub some_frags : (s : TheEnd) (c : TheCall) → 0 < length (frags_from s c)

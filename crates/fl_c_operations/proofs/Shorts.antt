@@ -1,85 +1,52 @@
--- Calls of one fragment, by their tapes.
-use Rattle.std.proofs.Common.{◌≡◌, ℕ, ◌<◌, ◌≤◌, ◌^◌, true, List, [], ◌∷◌, Some, refl, sym, ap, subst, ◌∙◌, arith}
-use Rattle.std.specs.Prelude.{slice_get}
+-- Calls of messages of few numbers, by their codecs.
+use Rattle.std.proofs.Common.{◌≡◌, ℕ, ◌<◌, ◌^◌, true, List, [], ◌∷◌, length, refl, sym, subst, ◌∙◌, arith}
+use Rattle.std.specs.Cmp.{first_so}
+use Rattle.std.proofs.lemmas.Bool.{leb-true}
 use Rattle.fl_base.specs.declared.fragment.Frag.{Frag}
-use Rattle.fl_interface.specs.Interface.{TheMessage, TheInterface}
+use Rattle.fl_base.specs.Control.{control_word, body, message_of, bare}
 use Rattle.fl_interface.specs.Limits.{is_within_limits}
-use Rattle.fl_interface.specs.Counts.{interface_words_fit}
-use Rattle.fl_value_data.specs.declared.value.PlanNo.{PlanNo}
-use Rattle.fl_value_data.specs.declared.value.PlanNo.TheVariants.{One}
 use Rattle.fl_value_data.specs.Value.{TheCall}
 use Rattle.fl_value_data.specs.Fits.{fits_of}
-use Rattle.fl_value_data.specs.Taken.{HasTape}
-use Rattle.fl_value_data.proofs.Untaped.{as_many, call_found}
-use Rattle.fl_layout.specs.Layouts.{payload_length, IsGreatest}
-use Rattle.fl_layout.specs.Places.{count}
-use Rattle.fl_wire.specs.Payload.{frags_on}
-use Rattle.fl_stub.specs.declared.op.Column.TheVariants.{Send}
-use Rattle.fl_stub.specs.Code.{TheCode}
-use Rattle.fl_stub.specs.Frames.{block_of}
-use Rattle.fl_stub.specs.Given.{bytes_given}
-use Rattle.fl_compile.specs.Laws.{HasMessage}
-use Rattle.fl_compile.specs.Programs.{TheProgram, code_in}
-use Rattle.fl_machine.specs.Sending.{frags_holding}
-use Rattle.fl_machine.specs.Laws.{SendsFragments}
-use Rattle.fl_endpoint.specs.Stored.{AreOwn}
-use Rattle.fl_c_operations.specs.After.{after_all, after_argument}
-use Rattle.fl_c_operations.specs.Shorts.{IsFragOfTape, IsFragOfNumbers}
-use Rattle.fl_c_operations.proofs.Sent.{own_frags, only_one, length_frags}
-use Rattle.fl_c_operations.proofs.Starts.{message_of_call, code_is}
-use Rattle.fl_c_operations.proofs.Taped.{all_found}
+use Rattle.fl_value_data.specs.Tape.{tape_of}
+use Rattle.fl_compile.specs.Programs.{TheProgram}
+use Rattle.fl_codec.specs.Codecs.{IsFragOfTape as IsCodecsFrag}
+use Rattle.fl_codec.proofs.Calls.{few_of, frag_is}
+use Rattle.fl_endpoint.specs.Stored.{IsOwn, AreOwn}
+use Rattle.fl_c_operations.specs.Shorts.{IsOnlyFrag, IsNoShorts}
+use Rattle.fl_c_operations.proofs.Messages.{known}
+use Rattle.fl_c_operations.proofs.Sent.{own_frags}
 
--- where nothing is left behind a message's arguments, a call has the tape under plan 1
-pub declared_call : (i : TheInterface) (m : TheMessage) (msg : ℕ) (tape : List ℕ) → slice_get i.messages msg ≡ Some m → after_all after_argument m.args tape ≡ Some []
-    → (c : TheCall) × HasTape One i msg tape c
-declared_call i m msg tape here e =
-    let (ds, stands) = all_found m.args tape [] e in
-    (record { msg = msg; args = ds }, call_found One i m msg tape ds ds here stands (as_many m.args tape ds [] stands) refl)
+-- a message's number has 16 bits
+pub msg_small : (x : TheProgram) (c : TheCall) → is_within_limits x.interface ≡ true → fits_of x.interface c ≡ true → c.msg < 2 ^ 16
+msg_small x c within fits =
+    let few = leb-true (length x.interface.messages) 256 (first_so _ _ within) in
+    omega (arith, few, known x.interface.messages c.msg c.args fits)
 
--- a call whose payload has no more bytes than a fragment is one fragment
-pub one_fragment : (plan : PlanNo) (i : TheInterface) (msg n : ℕ) → IsGreatest (payload_length plan i) i msg n → n ≤ 56
-    → (c : TheCall) → fits_of i c ≡ true → c.msg ≡ msg → count plan i c ≡ 1
-one_fragment plan i msg n most few c fits names =
-    let within : payload_length plan i c ≤ n = most.bounds c (record { fits = fits; names = names }) in
-    omega (arith, within, few)
+-- no link changes it, or takes it for an acknowledgement
+pub own_by : (x : TheProgram) (circuit msg : ℕ) (tape : List ℕ) (f : Frag) → is_within_limits x.interface ≡ true → circuit < 2 ^ 16 → IsCodecsFrag x.plan x.interface circuit msg tape f → IsOwn f
+own_by x circuit msg tape f within small h =
+    let owns = own_frags circuit x.plan x.interface h.call (msg_small x h.call within h.has.fits) small in
+    let one : AreOwn (f ∷ []) = subst AreOwn h.frags owns in
+    one.0
 
--- the same by the program's own interface and plan
-pub one_in : (x : TheProgram) (plan : PlanNo) (i : TheInterface) (msg n : ℕ) → i ≡ x.interface → plan ≡ x.plan → IsGreatest (payload_length plan i) i msg n → n ≤ 56
-    → (c : TheCall) → fits_of x.interface c ≡ true → c.msg ≡ msg → count x.plan x.interface c ≡ 1
-one_in x plan i msg n e p most few c fits names =
-    one_fragment x.plan x.interface msg n
-    (subst (λ (j : TheInterface). IsGreatest (payload_length x.plan j) j msg n) e (subst (λ (q : PlanNo). IsGreatest (payload_length q i) i msg n) p most)) few c fits names
+-- a call's only fragment, as its codec has it
+codecs_frag : (x : TheProgram) (circuit : ℕ) (c : TheCall) (f : Frag) → fits_of x.interface c ≡ true → IsOnlyFrag x circuit c f → IsCodecsFrag x.plan x.interface circuit c.msg (tape_of x.plan x.interface c) f
+codecs_frag x circuit c f fits only = record { call = c; has = record { message = refl; fits = fits; whole = refl }; frags = only.frags }
 
--- the fragments that a message's code gives of a call's tape
-frags_are : SendsFragments → (x : TheProgram) (circuit msg : ℕ) (c : TheCall) (code : TheCode) (tape : List ℕ)
-    → is_within_limits x.interface ≡ true → interface_words_fit x.interface ≡ true → HasTape x.plan x.interface msg tape c → Some code ≡ code_in Send x msg
-    → frags_holding true msg circuit (bytes_given (block_of code.ops) tape) ≡ frags_on circuit x.plan x.interface c
-frags_are sends x circuit msg c code tape within words has some =
-    let m = message_of_call x.interface c has.fits in
-    let of_call : Some code ≡ code_in Send x c.msg = subst (λ (n : ℕ). Some code ≡ code_in Send x n) (sym has.message) some in
-    let here : HasMessage x.interface c.msg m.0 = record { within = within; words = words; message = m.1 } in
-    ap (λ (n : ℕ). frags_holding true n circuit (bytes_given (block_of code.ops) tape)) (sym has.message)
-    ∙ ap (λ (t : List ℕ). frags_holding true c.msg circuit (bytes_given (block_of code.ops) t)) has.whole
-    ∙ sends circuit x.plan x.interface m.0 c code here has.fits (code_is x c.msg m.0 code m.1 of_call)
+-- a control word tells its message
+message_read : (msg word : ℕ) → msg < 2 ^ 16 → body word ≡ control_word true msg 0 → message_of word ≡ msg
+message_read msg word small e = omega (arith, small, e)
 
--- the first of them is the only one
-pub short_of : SendsFragments → (x : TheProgram) (plan : PlanNo) (i : TheInterface) (circuit msg : ℕ) (code : TheCode) (tape : List ℕ) (f : Frag) → i ≡ x.interface → plan ≡ x.plan
-    → is_within_limits i ≡ true → interface_words_fit i ≡ true → msg < 2 ^ 16 → circuit < 2 ^ 16 → (c : TheCall) × HasTape plan i msg tape c
-    → ((c : TheCall) → fits_of x.interface c ≡ true → c.msg ≡ msg → count x.plan x.interface c ≡ 1) → Some code ≡ code_in Send x msg
-    → Some f ≡ slice_get (frags_holding true msg circuit (bytes_given (block_of code.ops) tape)) 0 → IsFragOfTape x circuit msg tape f
-short_of sends x plan i circuit msg code tape f e p within words small few (c, there) one some first =
-    let has : HasTape x.plan x.interface msg tape c
-    = subst (λ (j : TheInterface). HasTape x.plan j msg tape c) e (subst (λ (q : PlanNo). HasTape q i msg tape c) p there) in
-    let bytes = bytes_given (block_of code.ops) tape in
-    let are : frags_holding true msg circuit bytes ≡ frags_on circuit x.plan x.interface c
-    = frags_are sends x circuit msg c code tape (subst (λ (j : TheInterface). is_within_limits j ≡ true) e within) (subst (λ (j : TheInterface). interface_words_fit j ≡ true) e words) has some in
-    let long = length_frags circuit x.plan x.interface c ∙ one c has.fits has.message in
-    let only : f ∷ [] ≡ frags_on circuit x.plan x.interface c
-    = only_one (frags_on circuit x.plan x.interface c) f (first ∙ ap (λ (fs : List Frag). slice_get fs 0) are) long in
-    let owns : AreOwn (f ∷ []) = subst (λ (fs : List Frag). AreOwn fs) (are ∙ sym only) (own_frags msg circuit bytes small few) in
-    (c, has, record { frags = sym only; own = owns.0 })
+-- a call's only fragment tells its message
+pub message_told : (x : TheProgram) (c : TheCall) (f : Frag) → is_within_limits x.interface ≡ true → fits_of x.interface c ≡ true → IsOnlyFrag x 0 c (bare f) → message_of f.control ≡ c.msg
+message_told x c f within fits only =
+    let filled = frag_is x.plan x.interface 0 c.msg (few_of x.interface c.msg only.few) (tape_of x.plan x.interface c) (bare f) (codecs_frag x 0 c (bare f) fits only) in
+    message_read c.msg f.control (msg_small x c within fits) filled.control_is
 
--- the same of all numbers
-pub short_numbers : (x : TheProgram) (circuit msg number : ℕ) (tape numbers : List ℕ) (f : Frag) → msg ≡ number → numbers ≡ number ∷ tape → IsFragOfTape x circuit msg tape f
-    → IsFragOfNumbers x circuit numbers f
-short_numbers x circuit msg number tape numbers f e is (c, has, only) = (c, (msg, tape, is ∙ ap (λ (n : ℕ). n ∷ tape) (sym e), has), only)
+-- a fragment of no tape of its message is that of no such call
+pub no_frag : (x : TheProgram) (f : Frag) (msg : ℕ) → is_within_limits x.interface ≡ true → msg ≡ message_of f.control → ((tape : List ℕ) → IsCodecsFrag x.plan x.interface 0 msg tape (bare f) → ⊥)
+    → IsNoShorts x (bare f)
+no_frag x f msg within e none c fits only =
+    let same : c.msg ≡ msg = sym (e ∙ message_told x c f within fits only) in
+    let tape = tape_of x.plan x.interface c in
+    none tape (subst (λ (n : ℕ). IsCodecsFrag x.plan x.interface 0 n tape (bare f)) same (codecs_frag x 0 c (bare f) fits only))

@@ -63,7 +63,7 @@ chained : (o : Option (List ℕ)) (f : List ℕ → Option (List ℕ)) (rest : L
 chained None f rest e = absurd (cc)
 chained (Some next) f rest e = (next, refl, e)
 
-pub all_found : (ts : List TheArgType) (tape rest : List ℕ) → after_all after_argument ts tape ≡ Some rest → (ds : List Datum) × InTurn ArgumentAt ts tape ds rest
+all_found : (ts : List TheArgType) (tape rest : List ℕ) → after_all after_argument ts tape ≡ Some rest → (ds : List Datum) × InTurn ArgumentAt ts tape ds rest
 all_found [] tape rest e = ([], some_same tape rest e)
 all_found (t ∷ ts) tape rest e =
     let (next, first, second) = chained (after_argument t tape) (after_all after_argument ts) rest e in

@@ -5,11 +5,15 @@ use Rattle.std.specs.Option.{option_map}
 use Rattle.std.specs.Cmp.{second_so}
 use Rattle.std.proofs.lemmas.Bool.{eqb-true, ne_eqb}
 use Rattle.fl_base.specs.declared.fragment.Frag.{Frag}
+use Rattle.fl_base.specs.Control.{bare}
+use Rattle.fl_interface.specs.Limits.{is_within_limits}
 use Rattle.fl_value_data.specs.Value.{TheCall, call_of}
 use Rattle.fl_value_data.specs.Fits.{fits_of}
 use Rattle.fl_link.specs.Looks.{Look}
 use Rattle.fl_machine.specs.Reassembling.{TheReassembly}
-use Rattle.fl_compile.specs.Programs.{program_of}
+use Rattle.fl_compile.specs.declared.program.Program.{Program}
+use Rattle.fl_compile.specs.Programs.{TheProgram, program_of}
+use Rattle.fl_codec.specs.declared.codec.Codec.{Codec}
 use Rattle.fl_endpoint.specs.declared.answer.ReceiveAnswer.{ReceiveAnswer}
 use Rattle.fl_endpoint.specs.declared.answer.ReceiveAnswer.TheVariants.{Handle, Part, Quiet, Empty, HeldBack}
 use Rattle.fl_endpoint.specs.declared.fault.EndFault.{EndFault}
@@ -19,8 +23,11 @@ use Rattle.fl_endpoint.specs.Events.{IsReady, IsOpen, AreCall, Calls, Receives, 
 use Rattle.fl_endpoint.specs.Lent.{IsOf, IsPlaceOf, receipt, ReceivesAt}
 use Rattle.fl_endpoint.specs.Accounts.{Sound}
 use Rattle.fl_endpoint.specs.Stored.{IsOwn}
-use Rattle.fl_c_operations.proofs.Sent.{some_frags, idle_end, has_room}
-use Rattle.fl_c_operations.specs.Transmissions.{calls_left, all_of, with_outgoing, transmitting_frag, transmitting, Transmits, MayTransmit, holds_all, IsFragFrom, IsShortAt}
+use Rattle.fl_c_operations.proofs.Sent.{some_frags, idle_end, has_room, standing}
+use Rattle.fl_c_operations.specs.Codecs.{AreCodecs}
+use Rattle.fl_c_operations.specs.Shorts.{IsFragOfTape, AreNoShorts}
+use Rattle.fl_c_operations.proofs.Shorts.{message_told}
+use Rattle.fl_c_operations.specs.Transmissions.{calls_left, all_of, with_outgoing, transmitting_frag, transmitting, Transmits, MayTransmit, holds_all, IsFragFrom, IsShortAt, IsNoShortAt}
 
 -- ---- what is to be sent
 
@@ -98,6 +105,10 @@ transmits_still (Some f) s t c o h = transmits_kept f s t c o h
 pub short_transmitting : (p : Option Frag) (s : TheEnd) (numbers : List ℕ) (f : Frag) → IsFragFrom s numbers f → IsFragFrom (transmitting p s) numbers f
 short_transmitting None s numbers f h = h
 short_transmitting (Some g) s numbers f h = h
+
+pub no_numbers_transmitting : (p : Option Frag) (s : TheEnd) (numbers : List ℕ) → AreNoShorts (program_of s.program) numbers → AreNoShorts (program_of (transmitting p s).program) numbers
+no_numbers_transmitting None s numbers h = h
+no_numbers_transmitting (Some f) s numbers h = h
 
 -- ---- a rule is set
 
@@ -250,6 +261,24 @@ pub place_as : (s t : TheEnd) (calls : List TheReassembly) (place : ℕ) → s.p
 place_as s t calls place e h =
     weaker_at (slice_get calls place) (λ r. IsOf s r) (λ r. IsOf t r) (λ r of. record { program = of.program ∙ ap program_of e; are_bare = of.are_bare }) h
 
+-- ---- the codecs
+
+pub coded_as : (s t : TheEnd) (codecs : List (Option Codec)) → t.program ≡ s.program → AreCodecs (program_of s.program) codecs → AreCodecs (program_of t.program) codecs
+coded_as s t codecs e h = subst (λ (p : Program). AreCodecs (program_of p) codecs) (sym e) h
+
+some_told : (a b : TheReassembly) → Some a ≡ Some b → a ≡ b
+some_told a b e = cc
+
+-- an end that receives keeps its program, which its place has
+pub coded_after : {T : Type 0} (takes : T → Look → T → Type 0) (s t : TheEnd) (p q : T) (r : Result ReceiveAnswer EndFault) (calls : List TheReassembly) (place : ℕ) (after : List TheReassembly)
+    (codecs : List (Option Codec)) → IsPlaceOf s calls place → ReceivesAt takes (receipt s p r t q) calls place after → AreCodecs (program_of s.program) codecs → AreCodecs (program_of t.program) codecs
+coded_after takes s t p q r calls place after codecs known h coded =
+    let (was, there, of) = standing s (slice_get calls place) known in
+    let same : h.was ≡ was = some_told h.was was (sym h.was_there ∙ there) in
+    let kept : program_of t.program ≡ program_of s.program
+    = sym h.event.of.program ∙ ap program_of h.event.program ∙ ap (λ (x : TheReassembly). program_of x.program) same ∙ of.program in
+    subst (λ (x : TheProgram). AreCodecs x codecs) (sym kept) coded
+
 -- ---- the fragment in transmission is put
 
 -- then the end has what it has to send, and no more
@@ -297,6 +326,20 @@ transmits_none p s e = subst (λ (q : Option Frag). MayTransmit q s) (sym e) tt
 pub taken_transmitting : (p : Option Frag) (s : TheEnd) (msg : ℕ) (tape : List ℕ) (f : Frag) → IsShortAt s msg tape f → IsShortAt (transmitting p s) msg tape f
 taken_transmitting None s msg tape f h = h
 taken_transmitting (Some g) s msg tape f h = record { short = h.short; rule = h.rule; words = h.words }
+
+-- a fragment that is no such call's
+pub no_short_transmitting : (p : Option Frag) (s : TheEnd) (f : Frag) → IsNoShortAt s f → IsNoShortAt (transmitting p s) f
+no_short_transmitting None s f h = h
+no_short_transmitting (Some g) s f h = h
+
+-- there is a reply to the call by rule
+pub ruled : (s : TheEnd) (f : Frag) (msg reply : ℕ) (tape : List ℕ) → is_within_limits (interface_in s) ≡ true → IsFragOfTape (program_of s.program) 0 msg tape (bare f) → Some reply ≡ rule_at s.rules msg
+    → IsNoShortAt s (bare f)
+ruled s f msg reply tape within (e, has, only) rule d fits same none =
+    let x = program_of s.program in
+    let at : d.msg ≡ msg = sym (message_told x d f within fits same) ∙ message_told x e f within has.fits only ∙ has.message in
+    let gone : Some reply ≡ None = rule ∙ ap (rule_at s.rules) (sym at) ∙ none in
+    absurd (cc)
 
 more_than : (us : List Frag) (ws : List (List Frag)) → length (calls_left us ws) ≤ length ws + 1
 more_than [] ws = omega arith

@@ -1,9 +1,10 @@
 -- What an end takes at its first look, where no call is under way.
-use Rattle.std.specs.Prelude.{◌≡◌, true, Bool, Option, take}
+use Rattle.std.specs.Prelude.{◌≡◌, true, Bool, Option}
 use Rattle.fl_base.specs.declared.fragment.Frag.{Frag}
 use Rattle.fl_base.specs.Control.{bare}
 use Rattle.fl_link.specs.Looks.{saw, saw_ack, found, found_ack, missed}
 use Rattle.fl_ring.specs.SharedSides.{TheSide, SharedTakes}
+use Rattle.fl_codec.specs.Codecs.{numbers_of}
 use Rattle.fl_endpoint.specs.View.{TheEnd}
 use Rattle.fl_endpoint.specs.Events.{IsOpen}
 use Rattle.fl_c_operations.specs.Transmissions.{IsShortAt}
@@ -19,6 +20,6 @@ Glances s between p Nothing seen q = IsOpen s × SharedTakes p missed q
 Glances s between p Acknowledgement seen q = IsOpen s × ((m : TheSide) × SharedTakes p saw_ack m × SharedTakes m found_ack q)
 -- the only fragment of this call was taken
 Glances s between p (Short call) seen q = (between ≡ true) × IsOpen s
-    × ((f : Frag) × (m : TheSide) × (bare f ≡ f) × SharedTakes p (saw f) m × SharedTakes m (found f) q × IsShortAt s call.msg.0 (take call.count call.tape) f)
+    × ((f : Frag) × (m : TheSide) × (bare f ≡ f) × SharedTakes p (saw f) m × SharedTakes m (found f) q × IsShortAt s call.msg.0 (numbers_of call.numbers) f)
 -- no fragment was taken; the receive that follows must not look again
 Glances s between p Untaken seen q = IsAfterLook s p seen q

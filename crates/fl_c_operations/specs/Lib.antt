@@ -2,6 +2,7 @@ pub mod Numbers
 pub mod Sides
 pub mod View
 pub mod Calls
+pub mod Codecs
 pub mod Shorts
 pub mod After
 pub mod Transmissions

@@ -1,17 +1,18 @@
--- Calls of one fragment.
-use Rattle.std.specs.Prelude.{◌≡◌, ℕ, List, [], ◌∷◌}
+-- Calls of messages of few numbers: at most seven arguments, each a scalar or an enum. Each is one fragment.
+use Rattle.std.specs.Prelude.{◌≡◌, ℕ, true, false, List, [], ◌∷◌, slice_get}
 use Rattle.fl_base.specs.declared.fragment.Frag.{Frag}
 use Rattle.fl_value_data.specs.Value.{TheCall}
+use Rattle.fl_value_data.specs.Fits.{fits_of}
 use Rattle.fl_value_data.specs.Taken.{HasTape}
 use Rattle.fl_wire.specs.Payload.{frags_on}
 use Rattle.fl_compile.specs.Programs.{TheProgram}
-use Rattle.fl_endpoint.specs.Stored.{IsOwn}
+use Rattle.fl_codec.specs.NumberPlaces.{has_few_numbers}
 use Rattle.fl_c_operations.specs.Calls.{AreCall}
 
--- this is the call's only fragment on a circuit; no link changes it, or takes it for an acknowledgement
+-- the call is of a message of few numbers, and this is its only fragment on a circuit
 pub record IsOnlyFrag (x : TheProgram) (circuit : ℕ) (c : TheCall) (f : Frag) : Type 0 where
+  pub few : has_few_numbers (slice_get x.interface.messages c.msg) ≡ true
   pub frags : frags_on circuit x.plan x.interface c ≡ f ∷ []
-  pub own : IsOwn f
 
 -- a fitting call of the message has this tape, and this is its only fragment
 abbrev pub IsFragOfTape : TheProgram → ℕ → ℕ → List ℕ → Frag → Type 0
@@ -20,3 +21,11 @@ IsFragOfTape x circuit msg tape f = (c : TheCall) × HasTape x.plan x.interface 
 -- these numbers are a fitting call's, and this is its only fragment
 abbrev pub IsFragOfNumbers : TheProgram → ℕ → List ℕ → Frag → Type 0
 IsFragOfNumbers x circuit numbers f = (c : TheCall) × AreCall x numbers c × IsOnlyFrag x circuit c f
+
+-- these numbers are those of no call of a message of few numbers
+abbrev pub AreNoShorts : TheProgram → List ℕ → Type 0
+AreNoShorts x numbers = (c : TheCall) → AreCall x numbers c → has_few_numbers (slice_get x.interface.messages c.msg) ≡ false
+
+-- this is the fragment, off circuits, of no fitting call of a message of few numbers
+abbrev pub IsNoShorts : TheProgram → Frag → Type 0
+IsNoShorts x f = (c : TheCall) → fits_of x.interface c ≡ true → IsOnlyFrag x 0 c f → ⊥

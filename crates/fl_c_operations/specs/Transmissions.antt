@@ -9,7 +9,9 @@ use Rattle.fl_endpoint.specs.declared.fault.EndFault.{EndFault}
 use Rattle.fl_endpoint.specs.View.{TheOutgoing, TheEnd, number_or_0, interface_in, begun, goes_on, has_rules, rule_at}
 use Rattle.fl_endpoint.specs.Events.{Calls}
 use Rattle.fl_endpoint.specs.Stored.{IsOwn}
-use Rattle.fl_c_operations.specs.Shorts.{IsFragOfTape, IsFragOfNumbers}
+use Rattle.fl_codec.specs.declared.codec.Codec.{Codec}
+use Rattle.fl_c_operations.specs.Codecs.{AreCodecs}
+use Rattle.fl_c_operations.specs.Shorts.{IsFragOfTape, IsFragOfNumbers, IsOnlyFrag}
 
 -- the calls that are to be sent, the one in transmission before those that wait
 abbrev pub calls_left : List Frag → List (List Frag) → List (List Frag)
@@ -46,6 +48,11 @@ abbrev pub MayTransmit : Option Frag → TheEnd → Type 0
 MayTransmit None s = Unit {0}
 MayTransmit (Some f) s = Transmits f s
 
+-- the same, and these are the codecs of the end's program
+pub record IsTransmitting (p : Option Frag) (s : TheEnd) (codecs : List (Option Codec)) : Type 0 where
+  pub transmits : MayTransmit p s
+  pub coded : AreCodecs (program_of s.program) codecs
+
 -- each fitting call is refused for this
 abbrev pub RefusesFitting : TheEnd → EndFault → Type 0
 RefusesFitting s fault = (c : TheCall) → fits_of (interface_in s) c ≡ true → Calls s c (Err fault) s
@@ -64,3 +71,7 @@ pub record IsShortAt (s : TheEnd) (msg : ℕ) (tape : List ℕ) (f : Frag) : Typ
   pub short : IsFragOfTape (program_of s.program) 0 msg tape f
   pub rule : rule_at s.rules msg ≡ None
   pub words : interface_words_fit (interface_in s) ≡ true
+
+-- this is the only fragment, off circuits, of no fitting call of a message of few numbers to which there is no reply by rule
+abbrev pub IsNoShortAt : TheEnd → Frag → Type 0
+IsNoShortAt s f = (c : TheCall) → fits_of (interface_in s) c ≡ true → IsOnlyFrag (program_of s.program) 0 c f → rule_at s.rules c.msg ≡ None → ⊥

@@ -1,11 +1,12 @@
 -- An end as a handle holds it.
-use Rattle.std.specs.Prelude.{◌≡◌, ℕ, true, Bool, List, [], ◌∷◌, take, slice_get, Option, Some, None}
+use Rattle.std.specs.Prelude.{◌≡◌, ℕ, true, Bool, List, [], ◌∷◌, slice_get, Option, Some, None}
 use Rattle.std.specs.Option.{option_map}
 use Rattle.fl_ring.specs.SharedSides.{TheSide}
 use Rattle.fl_machine.specs.Reassembling.{TheReassembly}
 use Rattle.fl_value_data.specs.Value.{call_of}
 use Rattle.fl_compile.specs.declared.program.Program.{Program}
 use Rattle.fl_compile.specs.Programs.{TheProgram, program_of}
+use Rattle.fl_codec.specs.Codecs.{numbers_of}
 use Rattle.fl_endpoint.specs.View.{TheEnd, fresh}
 use Rattle.fl_endpoint.specs.Lent.{AddsPlace, IsPlaceOf}
 use Rattle.fl_c_operations.specs.declared.unread.UnreadCall.{UnreadCall}
@@ -25,7 +26,7 @@ program_of_held h = program_of h.end.program
 -- the numbers of a call that was handled, as the code keeps it
 abbrev pub numbers_unread : TheProgram → UnreadCall → List ℕ
 numbers_unread x (Whole call) = numbers_of_call x (call_of call)
-numbers_unread x (Short call) = call.msg.0 ∷ take call.count call.tape
+numbers_unread x (Short call) = call.msg.0 ∷ numbers_of call.numbers
 
 -- the same, where a call is unread
 abbrev pub handled_by : Program → Option UnreadCall → Option (List ℕ)

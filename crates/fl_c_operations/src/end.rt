@@ -81,7 +81,8 @@ fn received(
 }
 
 impl HeldEnd {
-    /// A new end of a program over a side.
+    /// A new end of a program over a side. Beside what `End` and its place take it keeps a codec for each message, some 136 bytes
+    /// each.
     ///
     /// # Errors
     /// Out of memory (E99).
@@ -91,7 +92,7 @@ impl HeldEnd {
         let end = End::new(alloc, program, Circuit(0))?;
         let mut calls = Reassemblies::new(alloc);
         end.add_place(&mut calls)?;
-        let transmitting = TransmittingEnd::new(end);
+        let transmitting = TransmittingEnd::new(alloc, end)?;
         Ok(HeldEnd {
             alloc,
             end: transmitting,

@@ -10,7 +10,8 @@
 //! - `side.rt`: operations at a side of a ring
 //! - `end.rt`: an end with its side and place, and operations at it (`specs/Ends.antt`)
 //! - `transmitting.rt`: an end with a call of one fragment in transmission (`specs/Transmissions.antt`)
-//! - `short.rt`: calls of one fragment as numbers, without values (`specs/Shorts.antt`)
+//! - `short.rt`: calls of messages of few numbers, without values (`specs/Shorts.antt`), by `codecs.rt`: the codecs of a program's
+//!   messages (`specs/Codecs.antt`)
 //! - `glance.rt`: what an end takes at its first look (`specs/Glances.antt`); `looked.rt`: a side that has seen what stands first
 //!   (`specs/Seen.antt`); `unread.rt`: a call that was handled, until it is read
 //! - `calls.rt`: calls as numbers (`specs/Calls.antt`); `tapes.rt`: whether a tape is a call's, where memory ran out
@@ -21,6 +22,7 @@
 
 mod answer;
 mod calls;
+mod codecs;
 mod end;
 mod glance;
 mod handing;

@@ -2,6 +2,7 @@
 
 ghost use denote.Param.Send.{IsSend};
 ghost use Rattle.fl_value_data.specs.contracts.value.Call as CallRows;
+ghost use Rattle.fl_codec.specs.contracts.codec.Codec as CodecRows;
 ghost use Rattle.fl_compile.specs.contracts.program.Program as ProgramRows;
 ghost use Rattle.fl_machine.specs.contracts.reassemblies.Reassemblies as ReassembliesRows;
 ghost use Rattle.fl_machine.specs.contracts.send.SendRun as SendRunRows;
@@ -19,6 +20,7 @@ ghost use Rattle.fl_c_operations.specs.contracts.handle.Handle as HandleRows;
 
 use crate::program::HeldProgram;
 use crate::unread::UnreadCall;
+use fl_codec::Codec;
 use fl_compile::Program;
 use fl_endpoint::End;
 use fl_machine::{Reassemblies, RecvRun, SendRun};
@@ -42,6 +44,12 @@ fn program_sent()
     sends::<Program>();
 }
 
+fn codec_sent()
+    ensures sent { IsSend CodecRows.the_row }
+{
+    sends::<Codec>();
+}
+
 fn end_sent()
     ensures sent { IsSend EndRows.the_row }
 {
@@ -54,6 +62,7 @@ fn transmitting_sent()
     ensures sent { IsSend TransmittingRows.the_row }
 {
     end_sent();
+    codec_sent();
 }
 
 fn calls_sent()

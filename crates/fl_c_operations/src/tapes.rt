@@ -52,9 +52,8 @@ fn after_number(tape: &[u64], above: u128) -> Option<&[u64]>
     Some(rest)
 }
 
-/// Behind a scalar.
-#[inline]
-pub(crate) fn after_scalar(tape: &[u64], kind: Scalar) -> Option<&[u64]>
+// Behind a scalar.
+fn after_scalar(tape: &[u64], kind: Scalar) -> Option<&[u64]>
     ensures exact { option_copied result ≡ after_value (scalar kind) tape.now }
 {
     after_number(tape, count_of_scalar(kind))

@@ -1,31 +1,40 @@
 //! An end with a call of one fragment in transmission, which needs no values, and no memory.
 
-ghost use Rattle.std.specs.Prelude.{◌≡◌, ◌≢◌, ◌∷◌, [], true, take, length, Err, IsSome, IfSome, IfNone};
+ghost use Rattle.std.specs.Prelude.{◌≡◌, ◌≢◌, ◌∷◌, [], true, length, Err, IsSome, IfOk, IfSome, IfNone};
 ghost use Rattle.fl_base.specs.declared.fragment.Frag.{Frag};
 ghost use Rattle.fl_base.specs.Control.{bare};
 ghost use Rattle.fl_ring.specs.SharedSides.{SharedPuts};
 ghost use Rattle.fl_value_data.specs.Value.{TheCall, call_of};
 ghost use Rattle.fl_value_data.specs.Fits.{fits_of};
-ghost use Rattle.fl_endpoint.specs.View.{interface_in, frags_from, is_busy};
+ghost use Rattle.fl_codec.specs.Codecs.{numbers_of};
+ghost use Rattle.fl_compile.specs.Programs.{program_of};
+ghost use Rattle.fl_endpoint.specs.View.{interface_in, frags_from, is_busy, number_or_0};
 ghost use Rattle.fl_endpoint.specs.Events.{IsReady, IsOpen, Calls, Writes, SetsRule};
 ghost use Rattle.fl_endpoint.specs.Lent.{IsPlaceOf, receipt, ReceivesAt};
 ghost use Rattle.fl_endpoint.specs.Stored.{IsOwn};
-ghost use Rattle.fl_c_operations.specs.Transmissions.{all_of, transmitting_frag, Transmits, RefusesFitting, holds_all, IsFragFrom, IsShortAt};
+ghost use Rattle.fl_c_operations.specs.Codecs.{AreCodecs};
+ghost use Rattle.fl_c_operations.specs.Shorts.{AreNoShorts};
+ghost use Rattle.fl_c_operations.specs.Transmissions.{all_of, transmitting_frag, Transmits, RefusesFitting, holds_all, IsFragFrom, IsShortAt, IsNoShortAt};
 
+use crate::codecs::codecs_of;
 use crate::short::{ShortCall, short_call, short_frag};
-use fl_base::{Frag, MsgNo};
+use fl_base::{Circuit, Frag, MsgNo};
+use fl_codec::Codec;
 use fl_compile::Program;
 use fl_endpoint::{End, EndFault, ReceiveAnswer, WriteAnswer};
 use fl_link::{PutFault, TakeSide};
 use fl_machine::Reassemblies;
 use fl_ring::SharedSide;
 use fl_value_data::Call;
+use std::alloc::{AllocError, Global};
 use std::marker::Model;
 
 /// An end, and the only fragment of a call in transmission, behind which all that the end sends waits until that is put.
 #[derive(Drop)]
 pub(crate) struct TransmittingEnd {
     end: End,
+    // The codec of each message that has one.
+    codecs: Vec<Option<Codec>>,
     in_transmission: Option<Frag>,
 }
 
@@ -33,7 +42,7 @@ impl Model for TransmittingEnd {
     ghost use Rattle.std.specs.Coded.{codes};
     ghost use Rattle.fl_compile.specs.contracts.program.Program.{the_row};
     ghost use Rattle.fl_endpoint.specs.View.{TheEnd};
-    ghost use Rattle.fl_c_operations.specs.Transmissions.{transmitting, MayTransmit};
+    ghost use Rattle.fl_c_operations.specs.Transmissions.{transmitting, IsTransmitting};
 
     ghost Value = { TheEnd };
 
@@ -41,7 +50,7 @@ impl Model for TransmittingEnd {
 
     ghost view = { λ h. transmitting h.in_transmission h.end };
 
-    ghost invariant = { λ h. MayTransmit h.in_transmission h.end };
+    ghost invariant = { λ h. IsTransmitting h.in_transmission h.end h.codecs.items };
 }
 
 // What a fitting call is refused for, but for the want of memory.
@@ -88,18 +97,15 @@ fn refused_transmitting(end: &End) -> EndFault
     EndFault::Busy
 }
 
-// The only fragment of the call of these numbers. It may find none.
+// The circuit of an end; 0 where it isn't bound.
 #[inline(always)]
-fn short_of(end: &End, numbers: &[u64]) -> Option<Frag>
-    ensures short { IfSome result (λ f. IsFragFrom end.now numbers.now f) }
+fn circuit_of(end: &End) -> Circuit
+    ensures circuit { result.0 ≡ number_or_0 end.now.circuit }
 {
-    let Some(circuit) = end.circuit() else {
-        return None;
-    };
-    let Some(frag) = short_frag(end.program(), circuit, numbers) else {
-        return None;
-    };
-    Some(frag)
+    match end.circuit() {
+        Some(circuit) => circuit,
+        None => Circuit(0),
+    }
 }
 
 // How many calls are to be sent, with the one in transmission.
@@ -154,13 +160,18 @@ fn receive_transmitting<T: TakeSide>(
 
 impl TransmittingEnd {
     // An end with no such call in transmission.
-    pub(crate) fn new(end: End) -> TransmittingEnd
-        ensures same { result ≡ end }
+    //
+    // # Errors
+    // Out of memory (E99), for the codecs of its program.
+    pub(crate) fn new(alloc: Global, end: End) -> Result<TransmittingEnd, AllocError>
+        ensures same { IfOk result (λ transmitting. transmitting ≡ end) }
     {
-        TransmittingEnd {
+        let codecs = codecs_of(alloc, end.program())?;
+        Ok(TransmittingEnd {
             end,
+            codecs,
             in_transmission: None,
-        }
+        })
     }
 
     // The program of the binding's interface.
@@ -194,12 +205,15 @@ impl TransmittingEnd {
         }
     }
 
-    // The only fragment of the call of these numbers. It may find none.
+    // The only fragment of the call of these numbers. None exactly where they are those of no call of a message of few numbers.
     #[inline(always)]
     pub(crate) fn short_frag(&self, numbers: &[u64]) -> Option<Frag>
         ensures short { IfSome result (λ f. IsFragFrom self.now numbers.now f) }
+        ensures own { IfSome result IsOwn }
+        ensures none { IfNone result (AreNoShorts (program_of self.now.program) numbers.now) }
     {
-        let Some(frag) = short_of(&self.end, numbers) else {
+        let codecs = self.codecs.as_slice();
+        let Some(frag) = short_frag(codecs, circuit_of(&self.end), numbers) else {
             return None;
         };
         Some(frag)
@@ -297,13 +311,14 @@ impl TransmittingEnd {
         self.end.replies_waiting() < 15
     }
 
-    // The call whose only fragment this is, whatever its epoch and the count that it tells, if there is no reply to it by rule. It may find
-    // none.
+    // The call whose only fragment this is, whatever its epoch and the count that it tells, if there is no reply to it by rule. None
+    // exactly where there is a reply, or where it is that of no call of a message of few numbers.
     #[inline(always)]
     pub(crate) fn short_call(&self, frag: &Frag) -> Option<ShortCall>
-        ensures short { IfSome result (λ call. IsShortAt self.now call.msg.0 (take call.count call.tape) (bare frag.now)) }
+        ensures short { IfSome result (λ call. IsShortAt self.now call.msg.0 (numbers_of call.numbers) (bare frag.now)) }
+        ensures none { IfNone result (IsNoShortAt self.now (bare frag.now)) }
     {
-        let Some(call) = short_call(self.end.program(), frag) else {
+        let Some(call) = short_call(self.codecs.as_slice(), frag) else {
             return None;
         };
         match self.end.rule_for(call.msg) {

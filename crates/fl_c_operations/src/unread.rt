@@ -1,7 +1,8 @@
 //! A call that was handled, until it is read.
 
-ghost use Rattle.std.specs.Prelude.{◌≡◌, ◌≢◌, ◌∷◌, take, Err};
+ghost use Rattle.std.specs.Prelude.{◌≡◌, ◌≢◌, ◌∷◌, Err};
 ghost use Rattle.fl_compile.specs.Programs.{program_of};
+ghost use Rattle.fl_codec.specs.Codecs.{numbers_of};
 ghost use Rattle.fl_endpoint.specs.declared.fault.EndFault.TheVariants.{Memory};
 ghost use Rattle.fl_c_operations.specs.declared.answer.UseFault.TheVariants.{End};
 ghost use Rattle.fl_c_operations.specs.Calls.{PutsNumbers};
@@ -18,14 +19,14 @@ use fl_value_data::Call;
 pub(crate) enum UnreadCall {
     /// As it came.
     Whole(Call),
-    /// One of one fragment, by its tape.
+    /// One of few numbers, by its tape.
     Short(ShortCall),
 }
 
 // Puts a short call's message and tape into the first places of a room, and tells how many numbers these are.
 #[inline(always)]
 fn put_short(call: &ShortCall, room: &mut [u64]) -> Result<u64, UseFault>
-    ensures puts { PutsNumbers (call.now.msg.0 ∷ take call.now.count call.now.tape) room.old result room.new }
+    ensures puts { PutsNumbers (call.now.msg.0 ∷ numbers_of call.now.numbers) room.old result room.new }
     ensures not_memory { result ≢ Err (End Memory) }
 {
     let tape = call.tape();

@@ -1,9 +1,8 @@
-use Rattle.fl_compile.specs.Programs.{program_of}
-use Rattle.fl_c_operations.proofs.Shorts.{short_numbers}
+use Rattle.std.proofs.Common.{rules}
+use Rattle.fl_c_operations.proofs.Shorts.{own_by}
 use Rattle.fl_c_operations.proofs.short.short_frag.Goals as goal
 
-pub returns : goal.returns
-returns c = record {
-  short = short_numbers (program_of c.args.program.now) c.args.circuit.0 c.in-Some-message_at.msg.0 c.in-Some.message c.in-Some.tape.now c.args.numbers.now c.in-Some-tape_frag.frag
-      c.in-Some-message_at.ensures.some.0 c.in-Some.ensures.some c.in-Some-tape_frag.ensures.short;
-}
+pub returns-clause-own : goal.returns-clause-own
+returns-clause-own c = λ x h.
+    own_by x c.args.circuit.0 c.in-Some.message c.in-Some.tape.now c.in-Some-encode.frag h.within (search rules)
+    (c.in-Some-encode.ensures.exact x.plan x.interface c.in-Some.message (c.in-Some-codec_at.ensures.some x h))

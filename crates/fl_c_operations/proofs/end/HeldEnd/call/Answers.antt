@@ -5,7 +5,7 @@ use Rattle.fl_c_operations.specs.Ends.{CallsBy}
 use Rattle.fl_c_operations.proofs.end.HeldEnd.call.Goals as goal
 
 pub call_frag-requires : goal.call_frag-requires
-call_frag-requires c = record { own = c.in-Some.ensures.short.2.own }
+call_frag-requires c = record { own = c.in-Some.ensures.own }
 
 -- the only fragment of the call is in transmission
 pub returns-in-Some : goal.returns-in-Some

@@ -9,5 +9,5 @@ returns c =
     let adds = λ (calls : List TheReassembly). AddsPlace c.in_ok-end.end calls c.add_place.new.calls in
     let placed = subst adds c.new-calls.ensures.none c.in_ok-add_place.ensures.added in
     record {
-      made = (c.new-transmitting.ensures.same ∙ c.in_ok-end.ensures.made, c.new-2.ensures.side, subst (λ (e : TheEnd). AddsPlace e [] c.add_place.new.calls) (sym c.new-transmitting.ensures.same) placed, refl);
+      made = (c.in_ok-transmitting.ensures.same ∙ c.in_ok-end.ensures.made, c.new-3.ensures.side, subst (λ (e : TheEnd). AddsPlace e [] c.add_place.new.calls) (sym c.in_ok-transmitting.ensures.same) placed, refl);
     }

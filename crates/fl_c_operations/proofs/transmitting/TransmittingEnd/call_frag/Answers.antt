@@ -9,7 +9,7 @@ use Rattle.fl_c_operations.proofs.transmitting.TransmittingEnd.call_frag.Goals a
 
 pub refused_transmitting-requires : goal.refused_transmitting-requires
 refused_transmitting-requires c =
-    let transmits = transmits_is c.self.inside.in_transmission c.in-Some.field-0 c.self.inside.end c.in-Some.is c.self.invariant in
+    let transmits = transmits_is c.self.inside.in_transmission c.in-Some.field-0 c.self.inside.end c.in-Some.is c.self.invariant.transmits in
     record { bound = transmits.bound }
 
 pub returns-in-Some : goal.returns-in-Some
@@ -28,8 +28,10 @@ returns-in-Some-refused c =
     record { calls = λ call fits frags. refuses call fits; not_memory = λ e. c.in-Some-refused.ensures.not_memory (cc); program = refl }
 
 pub invariant_of-self : goal.invariant_of-self
-invariant_of-self c =
-    transmits_new c.self.inside.end c.args.frag c.law_sound.ensures.sound c.requires.own c.in-None-refused.ensures.none.0 c.in-None-refused.ensures.none.1
+invariant_of-self c = record {
+  transmits = transmits_new c.self.inside.end c.args.frag c.law_sound.ensures.sound c.requires.own c.in-None-refused.ensures.none.0 c.in-None-refused.ensures.none.1;
+  coded = c.self.invariant.coded;
+}
 
 pub returns-in-None-refused : goal.returns-in-None-refused
 returns-in-None-refused c =

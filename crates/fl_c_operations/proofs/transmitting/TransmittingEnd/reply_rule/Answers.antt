@@ -2,7 +2,7 @@ use Rattle.std.proofs.Common.{ap, sym, subst, ◌∙◌}
 use Rattle.fl_endpoint.specs.View.{TheEnd}
 use Rattle.fl_endpoint.specs.Events.{SetsRule}
 use Rattle.fl_c_operations.specs.Transmissions.{transmitting}
-use Rattle.fl_c_operations.proofs.Transmissions.{transmits_still, rules_transmitting, rules_keep, program_transmitting}
+use Rattle.fl_c_operations.proofs.Transmissions.{transmits_still, coded_as, rules_transmitting, rules_keep, program_transmitting}
 use Rattle.fl_c_operations.proofs.transmitting.TransmittingEnd.reply_rule.Goals as goal
 
 pub invariant_of-self : goal.invariant_of-self
@@ -10,7 +10,10 @@ invariant_of-self c =
     let h = c.self.inside in
     let t = c.reply_rule.new.self in
     let keep = rules_keep h.end t c.args.msg.0 c.args.reply.0 c.reply_rule.result c.reply_rule.ensures.sets in
-    transmits_still h.in_transmission h.end t keep.0 keep.1 c.self.invariant
+    record {
+      transmits = transmits_still h.in_transmission h.end t keep.0 keep.1 c.self.invariant.transmits;
+      coded = coded_as h.end t h.codecs.items c.reply_rule.ensures.program c.self.invariant.coded;
+    }
 
 pub returns : goal.returns
 returns c =

@@ -6,7 +6,7 @@ use Rattle.fl_c_operations.proofs.transmitting.TransmittingEnd.without_memory.Go
 
 pub refused_transmitting-requires : goal.refused_transmitting-requires
 refused_transmitting-requires c =
-    let transmits = transmits_is c.self.inside.in_transmission c.in-Some.field-0 c.self.inside.end c.in-Some.is c.self.invariant in
+    let transmits = transmits_is c.self.inside.in_transmission c.in-Some.field-0 c.self.inside.end c.in-Some.is c.self.invariant.transmits in
     record { bound = transmits.bound }
 
 pub returns-in-Some : goal.returns-in-Some

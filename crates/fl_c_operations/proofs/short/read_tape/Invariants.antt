@@ -1,5 +1,0 @@
-use Rattle.std.proofs.Common.{◌≤◌}
-use Rattle.fl_c_operations.proofs.short.read_tape.Given as goal
-
-abbrev pub invariant-loop-op : goal.invariant-loop-op
-invariant-loop-op l = record { few : l.count ≤ 7; far : l.used ≤ 63 }
