@@ -10,7 +10,8 @@ use fl_value_data::Call;
 use std::alloc::Global;
 use std::test::Fail;
 
-const TYPES: &[u8] = b"interface i { message small(uint8 x); message large(uint64 x); message two(uint8 x, uint8 y);
+const TYPES: &[u8] =
+    b"interface i { message small(uint8 x); message large(uint64 x); message two(uint8 x, uint8 y);
     message text(string s[8]); message none(); message array(uint8 x[n, 4]); }";
 
 // A call as text, and its one number, if it is a call of one.
@@ -19,7 +20,10 @@ struct CompactRow(&'static [u8], Option<u64>);
 const CALLS: &[CompactRow] = &[
     CompactRow(b"small(0)", Some(0)),
     CompactRow(b"small(255)", Some(255)),
-    CompactRow(b"large(18446744073709551615)", Some(18_446_744_073_709_551_615)),
+    CompactRow(
+        b"large(18446744073709551615)",
+        Some(18_446_744_073_709_551_615),
+    ),
     CompactRow(b"two(1, 2)", None),
     CompactRow(b"text(\"a\")", None),
     CompactRow(b"none()", None),
@@ -40,11 +44,18 @@ fn is_call(
         return Ok(false);
     };
     let mut printed = Vec::new(alloc);
-    print_call(alloc, &mut printed, &message.name.bytes, &compact.lend(&mut spare).args)?;
-    Ok(compact.number() == row.1
-        && compact.msg() == call.msg
-        && compact.fits(interface)
-        && printed.as_slice() == row.0)
+    print_call(
+        alloc,
+        &mut printed,
+        &message.name.bytes,
+        &compact.lend(&mut spare).args,
+    )?;
+    Ok(
+        compact.number() == row.1
+            && compact.msg() == call.msg
+            && compact.fits(interface)
+            && printed.as_slice() == row.0,
+    )
 }
 
 impl TextCase for CompactRow {
@@ -70,7 +81,13 @@ fn numbers_are_held_that_fit_no_message(rt: HostRuntime) -> Result<(), Fail> {
     let alloc = rt.alloc();
     let interface = interface(alloc, TYPES)?;
     let mut spare = NumberCall::new(alloc)?;
-    for (msg, number, fits) in [(0, 255, true), (0, 256, false), (2, 1, false), (3, 1, false), (6, 1, false)] {
+    for (msg, number, fits) in [
+        (0, 255, true),
+        (0, 256, false),
+        (2, 1, false),
+        (3, 1, false),
+        (6, 1, false),
+    ] {
         let compact = CompactCall::of_number(&mut spare, MsgNo(msg), number);
         if compact.fits(&interface) != fits || compact.number() != Some(number) {
             return Err(Fail::new(format_args!("{number} of message {msg}")));
