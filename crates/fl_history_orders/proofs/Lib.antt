@@ -1,0 +1,3 @@
+pub mod Cores
+pub mod Events
+pub mod Turning
