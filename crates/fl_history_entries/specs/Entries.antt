@@ -16,7 +16,7 @@ use Rattle.fl_history_events.specs.Events.{IsEventAfter}
 abbrev pub history_sides : SideRelations TheHistorySide
 history_sides = ways HistoryPuts HistoryTakes front_of
 
--- From c on a core did more, as d: these steps, which can be had at one moment.
+-- The steps of d are those of c, and behind them these, which can happen at one moment.
 pub record DidAnEvent (c d : TheCore) : Type 0 where
   pub steps : List Entry
   pub did : d.steps ≡ c.steps ++ steps
@@ -26,8 +26,8 @@ pub record DidAnEvent (c d : TheCore) : Type 0 where
 abbrev pub HasSeen : TheRun TheHistorySide → ℕ → Type 0
 HasSeen s n = (p : TheHistorySide) × (frag : Frag) × (slice_get s.rings n ≡ Some p) × (p.side.peeked ≡ Some frag)
 
--- What is known where a log goes on with this: a fragment that passes on was seen, and a turn looks at the side
--- from which its end takes.
+-- What is known where a log goes on with this: where a fragment passes on, one was seen at the side from which it
+-- comes; and a turn looks at the side from which its end takes.
 abbrev pub MayComeNext : LogEntry → TheRun TheHistorySide → Type 0
 MayComeNext (passed n m frag c Moved) s = HasSeen s n
 MayComeNext (turned d name (inlet.Side n) answer) s =

@@ -11,14 +11,14 @@ use Rattle.fl_history_sides.specs.States.{TheHistorySide}
 use Rattle.fl_history_sides.specs.Core.{AreSidesOf}
 use Rattle.fl_history_entries.specs.Entries.{history_sides, DidAnEvent, HasSeen, MayComeNext}
 
--- Law: what a core does by its sides where an event of its log happens can be had at one moment. Its sides are
--- those of core c before, and of core d then.
+-- Law: what a core does by its sides where an event of its log happens can happen at one moment. Its sides are
+-- those of core c before, and of core d then; where a fragment passes on, one was seen before.
 abbrev pub EntriesAreEvents : Type 0
 EntriesAreEvents = (s t : TheRun TheHistorySide) (log_entry : LogEntry) (c d : TheCore)
     → AreSidesOf c s.rings → AreSidesOf d t.rings → Happens history_sides log_entry s t → MayComeNext log_entry s
     → DidAnEvent c d
 
--- Law: a look that finds a fragment which passes on has seen it.
+-- Law: a look that finds a fragment which passes on leaves its side with one seen and not taken.
 abbrev pub LooksSee : Type 0
 LooksSee = (s t : TheRun TheHistorySide) (n to : ℕ) (l : LinkId) (frag : Frag) (circuit : Circuit)
     → Happens history_sides (looked n l (Ok (Onward frag to circuit))) s t → HasSeen t n

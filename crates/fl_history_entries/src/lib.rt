@@ -1,4 +1,4 @@
-//! What a running core does at a table of rings (`fl_history_sides`), event by event of its log: each can be had
+//! What a running core does at a table of rings (`fl_history_sides`), event by event of its log: each can happen
 //! at one moment. Laws, the contracts of functions that do nothing.
 //!
 //! - `law.rt`: the laws

@@ -1,5 +1,6 @@
--- Events of cores: steps of one core in a row that can be had at one moment, whatever other cores do between
--- them. And an order of steps, cut into events.
+-- Events of cores: steps of one core in a row that can happen at one moment, whatever other cores do between
+-- them. And an order of steps, cut into events. The field calls steps that may wait right movers, those that may come
+-- earlier left movers, and such an event atomic.
 use Rattle.std.specs.Prelude.{ℕ, ◌≡◌, ◌≤◌, ◌==◌, ◌⊎◌, Bool, true, false, if◌then◌else◌}
 use Rattle.std.specs.Prelude.{List, [], ◌∷◌, ◌++◌}
 use mathlib.Core.Option.{some}
@@ -11,9 +12,9 @@ use Rattle.fl_history_rings.specs.declared.board.SideEnd.{SideEnd}
 use Rattle.fl_history_rings.specs.Rings.{Way, Goes, Runs, IsByItsCore, steps_of}
 use Rattle.fl_history_rings.specs.Rule.{gather, one_action}
 
--- ---- what can be had later, and what earlier
+-- ---- what can happen later, and what earlier
 
--- It may wait: it can be had later, past steps of other cores.
+-- It may wait: it can happen later, past steps of other cores.
 --   What was found, seen or taken stood first for its side, and what stands first stands first till that side
 --   takes it: nobody else does. How many it took is told by its next put, and not before.
 --   A look that misses may not wait: something may be put meanwhile. Nor may a put: it may be awaited.
@@ -45,7 +46,7 @@ stands_from known (action ∷ more) = stands_from (known_after known action) mor
 abbrev pub known_to_stand : ℕ → List Entry → Bool
 known_to_stand s es = stands_from false (gather one_action s es)
 
--- It may come earlier: it can be had before steps of other cores.
+-- It may come earlier: it can happen before steps of other cores.
 --   A look that misses always may: where nothing stands for a side nothing stood before, since nobody else
 --   takes it away.
 --   What is found, seen or taken may only where it is known that something stood: else it may have been put
@@ -124,7 +125,7 @@ pub record CoreEvent : Type 0 where
 abbrev pub event : ℕ → List Entry → CoreEvent
 event core steps = record { core = core; steps = steps }
 
--- the steps of all of them, those of each side by side
+-- the steps of all of them, those of each in a row
 abbrev pub all_steps : List CoreEvent → List Entry
 all_steps [] = []
 all_steps (e ∷ es) = e.steps ++ all_steps es
@@ -142,7 +143,7 @@ Happens ends before e after = Runs (Goes ends) before e.steps after
 pub record EventsInOneOrder (ends : List SideEnd) (before : List Way) (events : ℕ → List (List Entry))
     (after : List Way) : Type 0 where
   pub order : List CoreEvent
-  -- All of each event happens at one moment: each of its steps finds how its ring stands then.
+  -- All of each event happens at one moment: each of its steps finds its ring as those before left it.
   pub happen : Runs (Happens ends) before order after
   -- So no step of another event comes between two of one.
   pub runs : Runs (Goes ends) before (all_steps order) after

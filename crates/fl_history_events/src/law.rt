@@ -4,8 +4,8 @@ ghost use Rattle.fl_history_events.specs.Laws.{EventsHaveOneOrder, GatheredEvent
 ghost use Rattle.fl_history_events.specs.Laws.{EventsHaveMoments, BegunEventsAreEvents, EventsStayEvents};
 
 /// Where steps of many cores have one order, each by the core whose side it is by, and what each core did is
-/// cut into events, the events have one order that leads to the same. In it the steps of each event stand side
-/// by side, and each core's events stand in its order.
+/// cut into events, the events have one order that leads to the same. In it the steps of each event stand in
+/// a row, with no other between, and each core's events stand in its order.
 pub fn law_events_have_one_order()
     ensures order { EventsHaveOneOrder }
 {}
@@ -16,7 +16,7 @@ pub fn law_gathered_events_have_one_order()
 {}
 
 /// An event is steps that may all wait, then one of any kind, and then steps that may all come earlier: at the
-/// moment of that one all of it is had.
+/// moment of that one all of it can happen.
 pub fn law_events_have_moments()
     ensures moments { EventsHaveMoments }
 {}

@@ -2,14 +2,14 @@
 //! functions that do nothing.
 //!
 //! A core's event is some of its steps in a row, by one side or by several, with steps of other cores between
-//! them in the order of all steps (`fl_history_rings::Gathering::settle`). Some kinds of step can be had later
-//! than they were, past steps of other cores, and some earlier. Where the first steps of an event may wait, up
-//! to one that decides, and the others may come as early as that, all of it can be had at one moment: a look
-//! that misses always comes earlier, and a take where its core has seen what stands there, in this event or
+//! them in the order of all steps (`fl_history_rings::Gathering::settle`). Some kinds of step can happen later
+//! than they did, past steps of other cores, and some earlier. Where the first steps of an event may wait, up
+//! to one that decides, and the others may come as early as that, all of it can happen at one moment: a look
+//! that misses may always come earlier, and a take where its core has seen what stands there, in this event or
 //! before (`specs/Events.antt`). So there is an order of whole events, that leads to the same
 //! ([`law_events_have_one_order`]).
 //!
-//! An event puts once at most: a second put is an event of its own.
+//! No event puts twice.
 //!
 //! No law says that the order of events is that of the steps that decide them, nor that of time.
 //!

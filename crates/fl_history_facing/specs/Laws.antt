@@ -21,7 +21,8 @@ use Rattle.fl_history_sides.specs.States.{TheHistorySide, side_after}
 use Rattle.fl_history_entries.specs.Entries.{history_sides, MayComeNext}
 use Rattle.fl_history_facing.specs.Moments.{AreSidesAt, AreOfTwoCores, run_beside}
 
--- a step of the side of this number, by what it came to, behind these steps: its core does these actions
+-- what the side of this number goes through by these steps of its core, behind those before them, finds what stands
+-- in its ring, if it is a step of the side by itself
 abbrev pub IsTrueStep : (TheSide → Look → TheSide → Type 0) → TableId → List SideEnd → List Entry → ℕ → Look
     → List Entry → Type 0
 IsTrueStep step table ends log s look did =
@@ -50,7 +51,7 @@ OwnStepsShowSides = (table : TableId) (ends : List SideEnd) (log : List Entry) (
     → ((i : ℕ) (e : Entry) → get_elem? log i ≡ some e → IsByItsCore ends e) → get_elem? ends s ≡ some end
     → side_after table (slots_of ends s) s (steps_of end.core log) ≡ side_at table ends log s
 
--- Law: where the steps of an event of a core's log stand side by side in one order, it happens at that moment over
+-- Law: where the steps of an event of a core's log stand in a row in one order, it happens at that moment over
 -- sides that face each other, and its loads find what stands then.
 abbrev pub EntriesHappenTruly : Type 0
 EntriesHappenTruly = (table : TableId) (ends : List SideEnd) (log steps : List Entry) (ways after : List Way)

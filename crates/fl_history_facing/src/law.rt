@@ -18,8 +18,9 @@ pub fn law_own_steps_show_sides()
     ensures own { OwnStepsShowSides }
 {}
 
-/// Where the steps of an event of a core's log stand side by side in one order of all, it happens at that moment
-/// over sides that face each other, and its loads find what stands then.
+/// Where the steps of an event of a core's log stand in a row in one order of all, it happens at that moment over
+/// sides that face each other, and its loads find what stands then. Each ring is between two cores; where a fragment
+/// passes on, one was seen before.
 pub fn law_entries_happen_truly()
     ensures happen { EntriesHappenTruly }
 {}

@@ -1,6 +1,6 @@
-//! One order of all steps at a table of rings, and the joined cores' own words for what finds what stands: each
-//! step of a side is a true one of sides that face each other, and an event of a core's log, whose steps stand side
-//! by side, happens over those. Laws, the contracts of functions that do nothing.
+//! Where all steps at a table have one order, each step of a side finds what stands in its ring (`Truly` of
+//! `fl_cores_joined`), and so does each event of a core's log whose steps are in a row there. Laws, the contracts of
+//! functions that do nothing.
 //!
 //! - `law.rt`: the laws
 #![tactic(auto)]

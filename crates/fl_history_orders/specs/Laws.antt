@@ -9,6 +9,7 @@ use Rattle.fl_history_orders.specs.Orders.{CoreMoment, LoggedEvent, RanInOneOrde
 
 -- Law: where all that cores did by the sides of one table has one order, their logs have one, in which each event
 -- happens in its turn, over rings as they stand then. No premise says that events have an order.
+-- A look and what follows it are two events here; others may come between.
 abbrev pub LogsHaveOneOrder : Type 0
 LogsHaveOneOrder = (table : TableId) (ends : List SideEnd) (jobs : List CoreJob) (count : ℕ)
     (begin end : ℕ → CoreMoment) (logs : ℕ → List LoggedEvent) (queues : ℕ → List ℕ)

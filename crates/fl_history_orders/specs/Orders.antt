@@ -37,7 +37,7 @@ pub record LoggedEvent : Type 0 where
   pub log_entry : LogEntry
   pub steps : List Entry
 
--- it happens in its place, from the one moment to the other
+-- it happens in its place, from the one moment to the other; all sides are the core's then, and its steps are these more
 pub record IsNext (table : TableId) (ends : List SideEnd) (jobs : List CoreJob) (x : CoreMoment) (e : LoggedEvent)
     (y : CoreMoment) : Type 0 where
   pub happens : Happens history_sides e.log_entry x.run y.run
@@ -78,6 +78,7 @@ AreHeld ends count at = (s : ℕ) (end : SideEnd) → get_elem? ends s ≡ some 
     → (end.core < count) × ((i : ℕ) × (slice_get (numbers_of (at end.core).run.rings) i ≡ Some s))
 
 -- So many cores of one table ran their logs, each from when it had done nothing, and one order has all that they did.
+-- Each stands between two events of its log in the end: one that stopped for want of memory within a turn does not.
 pub record RanInOneOrder (table : TableId) (ends : List SideEnd) (jobs : List CoreJob) (count : ℕ)
     (begin end : ℕ → CoreMoment) (logs : ℕ → List LoggedEvent) : Type 0 where
   pub held : AreHeld ends count begin

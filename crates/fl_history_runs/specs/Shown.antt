@@ -1,4 +1,4 @@
--- A core's run over sides of one table, as one over sides of rings that have tables of their own.
+-- A core's run over sides of one table, as one by the steps of sides of rings by themselves.
 use Rattle.std.specs.Prelude.{◌≡◌, map}
 use Rattle.fl_link.specs.Looks.{Look}
 use Rattle.fl_ring.specs.SharedSeats.{front_seen}
@@ -29,7 +29,7 @@ shown_by f s = over (map f s.rings) s
 abbrev pub shown_at : {S T : Type 0} → (S → T) → RunMoment S → RunMoment T
 shown_at f a = moment (shown_by f a.run) a.run_seat
 
--- Law: a core's run over sides of one table is one over sides of rings that have tables of their own.
+-- Law: a core's run over sides of one table is one by the steps of sides of rings by themselves.
 abbrev pub RunsAreShown : Type 0
 RunsAreShown = (t : RunTask) (a b : RunMoment TheHistorySide) (part : Part) → CoreRan history_ways t a part b
     → CoreRan side_ways t (shown_at (λ p. p.side) a) part (shown_at (λ p. p.side) b)
