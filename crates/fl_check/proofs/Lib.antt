@@ -9,6 +9,8 @@ pub mod Limits
 pub mod Longs
 pub mod NameSets
 pub mod NameMaps
+pub mod SortedNames
+pub mod Members
 pub mod Names
 pub mod TextInterfaces
 pub mod TextTrees

@@ -6,7 +6,7 @@ use Rattle.std.proofs.lemmas.List.{map_push}
 use Rattle.std.proofs.lemmas.Slice.Eq.{bytes_eq-Decides}
 use Rattle.fl_interface.specs.Limits.{is_among}
 
-abbrev now_of : Bor (List ℕ) → List ℕ
+abbrev pub now_of : Bor (List ℕ) → List ℕ
 now_of n = n.now
 
 turned_step : (a b : List ℕ) (x y : Bool) → x ≡ bytes_eq a b → y ≡ bytes_eq b a → x ≡ y

@@ -1,7 +1,9 @@
 -- A working file: what the checker keeps, as definitions see it.
-use Rattle.std.specs.Prelude.{ℕ, ◌≤◌, List, map}
+use Rattle.std.specs.Prelude.{◌≡◌, ℕ, ◌≤◌, List, map}
 use Rattle.fl_interface.specs.Sizes.{size_of}
+use Rattle.fl_interface.specs.Limits.{is_among}
 use Rattle.fl_check.specs.declared.words.DistinctNames.{DistinctNames}
+use Rattle.fl_check.specs.declared.words.SortedNames.{SortedNames}
 use Rattle.fl_check.specs.declared.declared.KnownType.{KnownType}
 use Rattle.fl_check.specs.declared.declared.Declared.{Declared}
 use Rattle.fl_check.specs.declared.payload.Checked.{Checked}
@@ -15,6 +17,14 @@ use Rattle.fl_check.specs.Known.{Named, Before}
 -- the names of a list of names
 abbrev pub list_of : DistinctNames → List (List ℕ)
 list_of names = map (λ name. name.now) names.set.keys
+
+-- the same, in the order of their bytes
+abbrev pub sorted_of : SortedNames → List (List ℕ)
+sorted_of names = map (λ name. name.now) names.set.keys
+
+-- two lists of the same names, in whatever order
+abbrev pub HaveSame : List (List ℕ) → List (List ℕ) → Type 0
+HaveSame names others = (name : List ℕ) → is_among names name ≡ is_among others name
 
 -- a declared type with its name
 abbrev pub named_of : Bor (List ℕ) × KnownType → Named

@@ -7,14 +7,14 @@ ghost use Rattle.fl_interface.specs.Limits.{is_among};
 ghost use Rattle.fl_check.specs.Places.{other_place, listed_place, member_places, field_place, field_places, count_places};
 ghost use Rattle.fl_check.specs.Checks.{first_fault};
 ghost use Rattle.fl_check.specs.Faults.{Tells, ComesAfter};
-ghost use Rattle.fl_check.specs.Views.{before_of, list_of};
+ghost use Rattle.fl_check.specs.Views.{before_of, list_of, sorted_of, HaveSame};
 ghost use Rattle.fl_parse.specs.Tree.{name_of, number_of, field_of};
 
 use crate::declared::Declared;
 use crate::fault::{CheckFault, Rule};
 use crate::measured::{Measured, StructFields};
 use crate::types::{check_count, refuse};
-use crate::words::DistinctNames;
+use crate::words::{DistinctNames, SortedNames};
 use fl_interface::MAX_LISTED;
 use fl_parse::{Field, Name, Number};
 use std::alloc::{AllocError, Global};
@@ -53,15 +53,28 @@ pub fn add_listed_name<'a>(
     Ok(())
 }
 
+/// Adds an enumerator: it stands once among those before it.
+#[tactic(auto, unfolding(crate::specs::Checks::first_fault, crate::specs::Places::other_place))]
+fn add_member<'a>(names: &mut SortedNames<'a>, name: &Name<'a>) -> Result<(), CheckFault>
+    ensures sound { OnOk result (first_fault (other_place (sorted_of names.old) (name_of name.now) ∷ []) ≡ None) }
+    ensures names { OnOk result (HaveSame (sorted_of names.new) (sorted_of names.old ++ name.now.text.now ∷ [])) }
+    ensures fault { IfErr result (λ e. Tells e (first_fault (other_place (sorted_of names.old) (name_of name.now) ∷ []))) }
+{
+    if !names.add(name.text)? {
+        return Err(refuse(Rule::NameTwice, name.at));
+    }
+    Ok(())
+}
+
 /// The names of an enum: none stands twice.
 pub fn check_members(alloc: Global, members: &[Name]) -> Result<(), CheckFault>
     ensures sound { OnOk result (first_fault (member_places [] (map name_of members.now)) ≡ None) }
     ensures fault { IfErr result (λ e. Tells e (first_fault (member_places [] (map name_of members.now)))) }
     ensures some { OnErr result (0 < length members.now) }
 {
-    let mut names = DistinctNames::new(alloc);
+    let mut names = SortedNames::new(alloc);
     for member in members {
-        add_name(&mut names, member)?;
+        add_member(&mut names, member)?;
     }
     Ok(())
 }

@@ -1,15 +1,16 @@
 //! Built-in names, and lists of names.
 
-ghost use Rattle.std.specs.Prelude.{◌≡◌, ◌++◌, ◌∷◌, [], map, length, IfOk, not, true};
+ghost use Rattle.std.specs.Prelude.{◌≡◌, ◌++◌, ◌∷◌, [], map, length, IfOk, OnOk, not, true};
 ghost use Rattle.std.specs.Str.{bytes_eq};
 ghost use Rattle.fl_check.specs.Known.{scalar_named, is_string, is_capability, is_built_in};
 ghost use Rattle.fl_interface.specs.Limits.{is_among};
-ghost use Rattle.fl_check.specs.Views.{list_of};
+ghost use Rattle.fl_check.specs.Views.{list_of, sorted_of, HaveSame};
 
 use fl_interface::{Scalar, Word};
 use fl_parse::Name;
 use indexmap::IndexSet;
 use std::alloc::{AllocError, Global};
+use std::collections::BTreeSet;
 
 /// The scalar type of a name.
 #[tactic(auto, unfolding(crate::specs::Known::scalar_named), using(std::proofs::lemmas::Slice::Eq::text_from_reads))]
@@ -59,7 +60,7 @@ pub fn is_built_in(name: &[u8]) -> bool
     scalar_named(name).is_some() || (is_string(name) || is_capability(name))
 }
 
-/// DistinctNames that stand before, in order, none twice.
+/// Names that stand before, in order, none twice. They are few: a map of many could be made slow by names chosen to collide in it.
 #[derive(Drop)]
 pub struct DistinctNames<'a> {
     pub set: IndexSet<&'a [u8]>,
@@ -84,6 +85,31 @@ impl<'a> DistinctNames<'a> {
     pub fn add(&mut self, name: &'a [u8]) -> Result<bool, AllocError>
         ensures new { IfOk result (λ new. new ≡ not (is_among (list_of self.old) name.now)) }
         ensures more { IfOk result (λ new. new ≡ true → list_of self.new ≡ list_of self.old ++ name.now ∷ []) }
+    {
+        let new = self.set.insert(name)?;
+        Ok(new)
+    }
+}
+
+/// Names that stand before, however many, none twice. They are sorted: whatever they are, a look-up compares few of them.
+#[derive(Drop)]
+pub struct SortedNames<'a> {
+    pub set: BTreeSet<&'a [u8]>,
+}
+
+impl<'a> SortedNames<'a> {
+    pub fn new(alloc: Global) -> SortedNames<'a>
+        ensures none { sorted_of result ≡ [] }
+    {
+        SortedNames {
+            set: BTreeSet::new(alloc),
+        }
+    }
+
+    /// Adds a name, and says whether it is new. One look-up.
+    pub fn add(&mut self, name: &'a [u8]) -> Result<bool, AllocError>
+        ensures new { IfOk result (λ new. new ≡ not (is_among (sorted_of self.old) name.now)) }
+        ensures more { OnOk result (HaveSame (sorted_of self.new) (sorted_of self.old ++ name.now ∷ [])) }
     {
         let new = self.set.insert(name)?;
         Ok(new)
