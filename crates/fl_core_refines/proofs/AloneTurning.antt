@@ -105,7 +105,7 @@ pub turn_steps : {S : Type 0} (ways : SideRelations S) (law : StepsAgree) (w : T
     (answer : TurnAnswer)
     (k : Wired s name place) → ShowsAlone w s a → place_of s.core name ≡ Some place → Happens ways (turned d name (inlet.Queue k.from) answer) s t
     → TurnsAsMachine w (record { before = s; after = t }) a d name answer
-turn_steps {S} ways law w s t a d name place answer k x at (m, (e, found, is_due, on), notes, before, soundly) =
+turn_steps {S} ways law w s t a d name place answer k x at (m, (e, found, is_due, on), notes, before, soundly, whole) =
     let core = noted_core name answer m t notes in
     let there : e ≡ place = same_some (place_of s.core name) e place found at in
     let kept = turn_keeps s.core m.core d e on.before on.after answer before on.event in

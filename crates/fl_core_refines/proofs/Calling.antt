@@ -99,7 +99,7 @@ noted_shown w name place (Ok unit) m t b at x h = progress_shown w m t b name on
 noted_shown {S} w name place (Err fault) m t b at x h = subst (λ (r : TheRun S). ShowsAlone w r b) (sym h) x
 
 pub calls_are : {S : Type 0} (ways : SideRelations S) → StepsAgree → CallsAreTheMachines ways
-calls_are {S} ways law w s t a name c answer x some (m, (e, found, on), notes, before, soundly) =
+calls_are {S} ways law w s t a name c answer x some (m, (e, found, on), notes, before, soundly, whole) =
     let core = noted_core name answer m t notes in
     let kept = call_keeps s.core m.core e c answer before on.event in
     let agrees = call_agrees law w s m a name c e answer x before kept found some on in
@@ -147,7 +147,7 @@ rule_agrees {S} law w s m a name msg answer place r x before sound at on =
     law (reply name msg answer) (world_with w s) (world_with w m) a.state (rule_answer r) x.shows steps
 
 pub rules_are : {S : Type 0} (ways : SideRelations S) → StepsAgree → RulesAreTheMachines ways
-rules_are {S} ways law w s t a name msg answer r x (m, (e, found, on), notes, before, soundly) =
+rules_are {S} ways law w s t a name msg answer r x (m, (e, found, on), notes, before, soundly, whole) =
     let core = same_core m t name one_more notes in
     let kept = rule_keeps s.core m.core e msg.0 answer.0 r before on.event in
     let agrees = rule_agrees law w s m a name msg.0 answer.0 e r x before kept found on in

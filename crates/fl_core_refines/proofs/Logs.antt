@@ -113,44 +113,44 @@ link_side_of s l n h = by (side_of_link s.core.link_sides l.0) h where
 
 one_follows : TakeShows → OutboxesAreShown → RoomsAgree → OpensAgree → (front : TheSide → Look) (jobs : List CoreJob) (a : CoreCut) (s t : TheRun TheSide) (log_entry : LogEntry) → ShowsCut a s
     → HearsNothing log_entry → Happens (shared front) log_entry s t → InPlace jobs s log_entry → After log_entry a s t
-one_follows law boxes rooms openings front jobs a s t (looked n l answer) h quiet (m, on, notes, sound, soundly) by =
+one_follows law boxes rooms openings front jobs a s t (looked n l answer) h quiet (m, on, notes, sound, soundly, whole) by =
     looks_follow front a s m t n l answer h (link_side_of s l n by) on (progresses_alone m t (looked n l answer) notes)
-one_follows law boxes rooms openings front jobs a s t (passed n k frag c Moved) h quiet (m, (mid, put, took), notes, sound, soundly) by =
+one_follows law boxes rooms openings front jobs a s t (passed n k frag c Moved) h quiet (m, (mid, put, took), notes, sound, soundly, whole) by =
     passes_follow a s mid m t n k by.link.0 frag c h (link_side_of s by.link n by.leads.link_side) put took (progresses_alone m t (passed n k frag c Moved) notes)
-one_follows law boxes rooms openings front jobs a s t (passed n k frag c Full) h quiet (m, put, notes, sound, soundly) by =
+one_follows law boxes rooms openings front jobs a s t (passed n k frag c Full) h quiet (m, put, notes, sound, soundly, whole) by =
     stays_full a s m t n k by.link.0 frag c h (link_side_of s by.link n by.leads.link_side) put (progresses_alone m t (passed n k frag c Full) notes)
-one_follows law boxes rooms openings front jobs a s t (passed n k frag c Spent) h quiet (m, put, notes, sound, soundly) by =
+one_follows law boxes rooms openings front jobs a s t (passed n k frag c Spent) h quiet (m, put, notes, sound, soundly, whole) by =
     stays_spent a s m t n k by.link.0 frag c h (link_side_of s by.link n by.leads.link_side) put (progresses_alone m t (passed n k frag c Spent) notes)
-one_follows law boxes rooms openings front jobs a s t (arrived n l frag e answer) h quiet (m, on, notes, sound, soundly) by =
+one_follows law boxes rooms openings front jobs a s t (arrived n l frag e answer) h quiet (m, on, notes, sound, soundly, whole) by =
     arrives_follow a s m t n l frag e answer h sound.core (link_side_of s l n by.link_side) on (progresses_alone m t (arrived n l frag e answer) notes)
-one_follows law boxes rooms openings front jobs a s t (said n l answer) h quiet (m, on, notes, sound, soundly) by =
+one_follows law boxes rooms openings front jobs a s t (said n l answer) h quiet (m, on, notes, sound, soundly, whole) by =
     says_follow boxes a s m t n l answer h (link_side_of s l n by) on (progresses_alone m t (said n l answer) notes)
-one_follows law boxes rooms openings front jobs a s t (told n l answer) h quiet (m, on, notes, sound, soundly) by =
+one_follows law boxes rooms openings front jobs a s t (told n l answer) h quiet (m, on, notes, sound, soundly, whole) by =
     tells_follow a s m t n l answer h (link_side_of s l n by) on (progresses_alone m t (told n l answer) notes)
 one_follows law boxes rooms openings front jobs a s t (heard n l frag answer) h quiet k by = absurd quiet
-one_follows law boxes rooms openings front jobs a s t (opened name request answer) h quiet (m, on, notes, sound, soundly) by =
+one_follows law boxes rooms openings front jobs a s t (opened name request answer) h quiet (m, on, notes, sound, soundly, whole) by =
     opens_follow rooms openings a s m t name request answer h sound on (λ none. says_nothing s.core request.link.0 _ none by.1) (progresses_alone m t (opened name request answer) notes)
-one_follows law boxes rooms openings front jobs a s t (called name c answer) h quiet (m, (e, at, on), notes, sound, soundly) by =
+one_follows law boxes rooms openings front jobs a s t (called name c answer) h quiet (m, (e, at, on), notes, sound, soundly, whole) by =
     calls_follow a s m t name c answer e h sound at on (progresses_alone m t (called name c answer) notes)
-one_follows law boxes rooms openings front jobs a s t (ruled name msg reply answer) h quiet (m, (e, at, on), notes, sound, soundly) by =
+one_follows law boxes rooms openings front jobs a s t (ruled name msg reply answer) h quiet (m, (e, at, on), notes, sound, soundly, whole) by =
     rules_follow a s m t name msg reply answer e h sound at on (progresses_alone m t (ruled name msg reply answer) notes)
-one_follows law boxes rooms openings front jobs a s t (wrote name (outlet.Side n) answer) h quiet (m, (e, at, on), notes, sound, soundly) (post, post_is, out_is) =
+one_follows law boxes rooms openings front jobs a s t (wrote name (outlet.Side n) answer) h quiet (m, (e, at, on), notes, sound, soundly, whole) (post, post_is, out_is) =
     side_writes_follow a s m t name n answer e h sound at (puts_to s name e post (outlet.Side n) at post_is out_is) on
     (progresses_alone m t (wrote name (outlet.Side n) answer) notes)
-one_follows law boxes rooms openings front jobs a s t (wrote name (outlet.Queue n) answer) h quiet (m, (e, at, on), notes, sound, soundly) (post, post_is, out_is) =
+one_follows law boxes rooms openings front jobs a s t (wrote name (outlet.Queue n) answer) h quiet (m, (e, at, on), notes, sound, soundly, whole) (post, post_is, out_is) =
     queue_writes_follow a s m t name n answer e h sound at (puts_to s name e post (outlet.Queue n) at post_is out_is) on
     (progresses_alone m t (wrote name (outlet.Queue n) answer) notes)
-one_follows law boxes rooms openings front jobs a s t (turned d name (inlet.Side n) answer) h quiet (m, (e, at, due_is, on), notes, sound, soundly) (due, lent, place, from, waits) =
+one_follows law boxes rooms openings front jobs a s t (turned d name (inlet.Side n) answer) h quiet (m, (e, at, due_is, on), notes, sound, soundly, whole) (due, lent, place, from, waits) =
     side_turns_follow law a s m t d name n answer e h sound soundly at (takes_from s d e due (inlet.Side n) due_is lent from) on
     (progresses_alone m t (turned d name (inlet.Side n) answer) notes)
-one_follows law boxes rooms openings front jobs a s t (turned d name (inlet.Queue n) answer) h quiet (m, (e, at, due_is, on), notes, sound, soundly) (due, lent, place, from, waits) =
+one_follows law boxes rooms openings front jobs a s t (turned d name (inlet.Queue n) answer) h quiet (m, (e, at, due_is, on), notes, sound, soundly, whole) (due, lent, place, from, waits) =
     queue_turns_follow law a s m t d name n answer e h sound soundly at (takes_from s d e due (inlet.Queue n) due_is lent from) on
     (progresses_alone m t (turned d name (inlet.Queue n) answer) notes)
-one_follows law boxes rooms openings front jobs a s t (turned d name inlet.Arrivals answer) h quiet (m, (e, at, due_is, on), notes, sound, soundly) (due, lent, place, from, waits) =
+one_follows law boxes rooms openings front jobs a s t (turned d name inlet.Arrivals answer) h quiet (m, (e, at, due_is, on), notes, sound, soundly, whole) (due, lent, place, from, waits) =
     let at_arrivals = takes_from s d e due inlet.Arrivals due_is lent from in
     arrivals_turn_follow law a s m t d name answer e h sound soundly at at_arrivals on (λ none. no_arrivals s.core e none sound.core at_arrivals)
     (progresses_alone m t (turned d name inlet.Arrivals answer) notes)
-one_follows law boxes rooms openings front jobs a s t (acked name n answer) h quiet (m, (e, at, on), notes, sound, soundly) (ring_end, ring_end_is, side_is) =
+one_follows law boxes rooms openings front jobs a s t (acked name n answer) h quiet (m, (e, at, on), notes, sound, soundly, whole) (ring_end, ring_end_is, side_is) =
     acks_follow a s m t name n answer e h sound at (acks_at ring_end (λ e2 m2. record { end = e2; side = m2 }) (λ b. b.side) (λ e2 m2. refl) s name e n at ring_end_is side_is) on (progresses_alone m t (acked name n answer) notes)
 
 -- by a log entry by which no message is heard
@@ -179,10 +179,10 @@ one_acts law boxes rooms openings front jobs services a s t log_entry h quiet k 
 pub events_follow : TakeShows → OutboxesAreShown → RoomsAgree → OpensAgree → HearsAgree → (front : TheSide → Look) (jobs : List CoreJob) (services : List Service)
     (a : CoreCut) (s t : TheRun TheSide) (log_entry : LogEntry) → ShowsCut a s → InOrder services log_entry a s → Happens (shared front) log_entry s t → InPlace jobs s log_entry
     → Follows services log_entry a t
-events_follow law boxes rooms openings hears front jobs services a s t (heard n l frag (Ok word)) h order (m, on, notes, sound, soundly) by =
+events_follow law boxes rooms openings hears front jobs services a s t (heard n l frag (Ok word)) h order (m, on, notes, sound, soundly, whole) by =
     let one = hears_follow hears services a s m t n l frag word h sound order.0 order.1 on (progresses_alone m t (heard n l frag (Ok word)) notes) in
     record { after = one.after; does = one.does; shows = one.shows }
-events_follow law boxes rooms openings hears front jobs services a s t (heard n l frag (Err fault)) h order (m, on, notes, sound, soundly) by =
+events_follow law boxes rooms openings hears front jobs services a s t (heard n l frag (Err fault)) h order (m, on, notes, sound, soundly, whole) by =
     let one = fails_follow services a s m t n l frag fault h on (progresses_alone m t (heard n l frag (Err fault)) notes) in
     record { after = one.after; does = one.does; shows = one.shows }
 events_follow law boxes rooms openings hears front jobs services a s t (looked n l answer) h order k by =

@@ -291,12 +291,12 @@ makes_stay services log_entry a b (inr h) = refuses_stay log_entry a b h
 
 still_ready : (services : List Service) (w : SideRelations TheSide) → OnAnotherCircuit → (jobs : List CoreJob) (a b : CoreCut) (s t : TheRun TheSide) (log_entry : LogEntry) → IsReady services a s
     → CutMakes services log_entry a b → Happens w log_entry s t → InPlace jobs s log_entry → IsReady services b t
-still_ready services w another jobs a b s t log_entry ready makes (m, does, notes, sound, soundly) place =
+still_ready services w another jobs a b s t log_entry ready makes (m, does, notes, sound, soundly, whole) place =
     let stays = makes_stay services log_entry a b makes in
     let aside = progresses_alone m t log_entry notes in
     let core : t.core ≡ m.core = ap (λ (x : TheRun TheSide). x.core) aside in
     let offers : t.offers ≡ s.offers = ap (λ (x : TheRun TheSide). x.offers) aside ∙ offers_done w log_entry s m does in
-    let gone = flows w another jobs s t (log_entry ∷ []) sound.core ready.apart (t, (m, does, notes, sound, soundly), place, refl) in
+    let gone = flows w another jobs s t (log_entry ∷ []) sound.core ready.apart (t, (m, does, notes, sound, soundly, whole), place, refl) in
     record {
       names = ap (λ (o : Rattle.fl_core.specs.Hearing.Offers). o.names) offers ∙ ready.names;
       serves = still_serves services a b stays ready.serves;
@@ -316,9 +316,9 @@ module _ (law : TakeShows) (boxes : OutboxesAreShown) (rooms : RoomsAgree) (open
 
   one_makes : (front : TheSide → Look) (jobs : List CoreJob) (services : List Service) (a : CoreCut) (s t : TheRun TheSide) (log_entry : LogEntry) → ShowsCut a s → IsReady services a s
       → Happens (shared front) log_entry s t → InPlace jobs s log_entry → Heard_ services log_entry a t
-  one_makes front jobs services a s t (heard n l frag (Ok word)) h ready (m, on, notes, sound, soundly) place =
+  one_makes front jobs services a s t (heard n l frag (Ok word)) h ready (m, on, notes, sound, soundly, whole) place =
       ready_hears hears services a s m t n l frag word h sound ready on (progresses_alone m t (heard n l frag (Ok word)) notes)
-  one_makes front jobs services a s t (heard n l frag (Err fault)) h ready (m, on, notes, sound, soundly) place =
+  one_makes front jobs services a s t (heard n l frag (Err fault)) h ready (m, on, notes, sound, soundly, whole) place =
       let one = fails_follow services a s m t n l frag fault h on (progresses_alone m t (heard n l frag (Err fault)) notes) in
       record { after = one.after; makes = inl one.does; shows = one.shows }
   one_makes front jobs services a s t (looked n l r) h ready k place = quietly front jobs services a s t (looked n l r) h tt k place

@@ -58,7 +58,7 @@ pub write_steps : {S : Type 0} (ways : SideRelations S) (law : StepsAgree) (w : 
     (answer : Result WriteAnswer EndFault)
     (k : Wired s name place) → ShowsAlone w s a → place_of s.core name ≡ Some place → Happens ways (wrote name (outlet.Queue k.out) answer) s t
     → WritesAsMachine w (record { before = s; after = t }) a name answer
-write_steps {S} ways law w s t a name place answer k x at (m, (e, found, on), same, before, soundly) =
+write_steps {S} ways law w s t a name place answer k x at (m, (e, found, on), same, before, soundly, whole) =
     let h = stands w s a name place x at in
     let there : e ≡ place = same_some (place_of s.core name) e place found at in
     let whole = whole_of w s a x before in

@@ -82,8 +82,8 @@ asked_left a s k (Err fault) is h = ap (λ (c : TheCore). record s { core = c })
 -- the opening that was judged before a copy was made is one that was asked for
 pub refused_before : {S : Type 0} (w : SideRelations S) (s t : TheRun S) (place : Option ℕ) (request : OpenRequest) (f : OpenFault) (b : Bool) → true ≡ b
     → request.interface < length s.offers.programs → RefusesOpen request.dispatcher request.link request.opening s.core f
-    → OfProgress place s (λ name. NotesOpened name (Err f) s t) → IsSound s.core → OfProgress place s (λ name. OpensIf w b name request s t)
-refused_before w s t place request f b may below h notes sound = λ name at.
+    → OfProgress place s (λ name. NotesOpened name (Err f) s t) → IsSound s.core → w.whole s.rings → OfProgress place s (λ name. OpensIf w b name request s t)
+refused_before w s t place request f b may below h notes sound whole = λ name at.
     let source : (p : Program) × (slice_get s.offers.programs request.interface ≡ Some p) = there_is s.offers.programs request.interface below in
     let does : Does w (opened name request (Err f)) s s = record {
       event = record {
@@ -93,4 +93,4 @@ refused_before w s t place request f b may below h notes sound = λ name at.
       };
       rest = refl;
     } in
-    subst (λ (x : Bool). OpensIf w x name request s t) may (Err f, (s, does, notes name at, sound, tt), not_memory s.core request f h)
+    subst (λ (x : Bool). OpensIf w x name request s t) may (Err f, (s, does, notes name at, sound, tt, whole), not_memory s.core request f h)

@@ -63,13 +63,13 @@ pub placed_then : {S : Type 0} (m t : TheRun S) (name : EndId) (place : Option �
 placed_then {S} m t name place h placed = subst (λ (k : TheCore). IsPlaceOf k name place) (sym (ap (λ (x : TheRun S). x.core) h.rest)) placed
 
 module _ {S : Type 0} (w : SideRelations S) (name : EndId) (s t : TheRun S) (e : ℕ) (k : TheCore) (answer : Result (Unit {0}) EndFault) (at : Some e ≡ place_of s.core name)
-    (sound : IsSound s.core) (sound_at : IsSoundAt s name) where
+    (sound : IsSound s.core) (whole : w.whole s.rings) (sound_at : IsSoundAt s name) where
   pub called : (call : AnyCall) → OnBoard s.core (λ b c. ChangesEnd b e (λ x y. Calls x (call_of call) answer y) c) k → lacks_to_call answer ≡ false
       → NotesCalled name answer (record s { core = k }) t → CallsAt w name call (place_of s.core name) s t
   called call event memory notes = subst (λ (o : Option ℕ). CallsAt w name call o s t) at
-      (answer, (record s { core = k }, (e, sym at, record { event = event; rest = refl }), notes, sound, sound_at), memory)
+      (answer, (record s { core = k }, (e, sym at, record { event = event; rest = refl }), notes, sound, sound_at, whole), memory)
 
   pub ruled : (message reply : MsgNo) → OnBoard s.core (λ b c. ChangesEnd b e (λ x y. SetsRule x message.0 reply.0 answer y) c) k
       → AtProgress name advanced (record s { core = k }) t → RulesAt w (reply_rule name message reply) (place_of s.core name) s t
   ruled message reply event notes = subst (λ (o : Option ℕ). RulesAt w (reply_rule name message reply) o s t) at
-      (answer, (record s { core = k }, (e, sym at, record { event = event; rest = refl }), notes, sound, sound_at))
+      (answer, (record s { core = k }, (e, sym at, record { event = event; rest = refl }), notes, sound, sound_at, whole))

@@ -24,15 +24,15 @@ use Rattle.fl_core_run.specs.Stops.{LeavesMessage}
 use Rattle.fl_core_run.specs.Inside.{OverSide}
 use Rattle.fl_core_run.proofs.Sides.{on_ring, on_side}
 
-module _ {S : Type 0} (w : SideRelations S) (s : TheRun S) (n : ℕ) (ts : List S) (sound : IsSound s.core) where
+module _ {S : Type 0} (w : SideRelations S) (s : TheRun S) (n : ℕ) (ts : List S) (sound : IsSound s.core) (whole : w.whole s.rings) where
   pub said : (l : LinkId) (k : TheCore) (answer : MonitorWrite) → Some n ≡ lent_link_side s l → OverSide n s.rings (λ p q. MonitorWrites w.puts l.0 (at_side s.core p) answer (at_side k q)) ts
       → Says w l s (record s { core = k; rings = ts })
   said l k answer link_side event = subst (λ (o : Option ℕ). SaysOver w l o s (record s { core = k; rings = ts })) link_side
-      (answer, (record s { core = k; rings = ts }, on_ring s n ts (λ c p c2 q. MonitorWrites w.puts l.0 (at_side c p) answer (at_side c2 q)) k event, refl, sound, tt))
+      (answer, (record s { core = k; rings = ts }, on_ring s n ts (λ c p c2 q. MonitorWrites w.puts l.0 (at_side c p) answer (at_side c2 q)) k event, refl, sound, tt, whole))
 
   pub told : (l : LinkId) (answer : AckAnswer) → Some n ≡ lent_link_side s l → OverSide n s.rings (λ p q. TellsTaken w.takes p answer q) ts → Tells w l s (record s { rings = ts })
   told l answer link_side event = subst (λ (o : Option ℕ). TellsOver w l o s (record s { rings = ts })) link_side
-      (answer, (record s { rings = ts }, on_side s n ts (λ p q. TellsTaken w.takes p answer q) event, refl, sound, tt))
+      (answer, (record s { rings = ts }, on_side s n ts (λ p q. TellsTaken w.takes p answer q) event, refl, sound, tt, whole))
 
   pub acked : (name : EndId) (e : ℕ) (answer : Result AckAnswer BoardFault) → Some (record { end = e; side = n }) ≡ lent_ring_end s name → place_of s.core name ≡ Some e
       → OverSide n s.rings (λ p q. Holds s.core.board e (λ seat. Acks w.takes seat.kind seat.end p answer q)) ts → Acknowledges w name s (record s { rings = ts })
@@ -54,6 +54,7 @@ module _ {S : Type 0} (w : SideRelations S) (s : TheRun S) (n : ℕ) (ts : List 
       refl,
       sound,
       tt,
+      whole,
     ),
   )
 
@@ -65,7 +66,7 @@ module _ {S : Type 0} (w : SideRelations S) (s : TheRun S) (n : ℕ) (ts : List 
 
     pub forwarded : (t : TheRun S) → Some n ≡ lent_link_side s l → HandsOut w n l found (record s { core = k; rings = ts }) t → Forwards w l s t
     forwarded t link_side hands_out = subst (λ (o : Option ℕ). ForwardsOver w l o s t) link_side
-        (found, record s { core = k; rings = ts }, (record s { core = k; rings = ts }, looks, refl, sound, tt), hands_out)
+        (found, record s { core = k; rings = ts }, (record s { core = k; rings = ts }, looks, refl, sound, tt, whole), hands_out)
 
     pub left : (t : TheRun S) → Some n ≡ lent_link_side s l
         → ((frag : Frag) × (found ≡ Ok (Message frag)) × (t ≡ record s { core = k; rings = ts }) × HearsFragLast s.offers l frag k Memory)
@@ -76,6 +77,6 @@ module _ {S : Type 0} (w : SideRelations S) (s : TheRun S) (n : ℕ) (ts : List 
       frag = h.0;
       looks = subst (λ (x : TheRun S). Happens w (looked n l (Ok (Message h.0))) s x) (sym h.2)
           (subst (λ (f : Result LinkFront LinkReceiveFault). Happens w (looked n l f) s (record s { core = k; rings = ts })) h.1
-          (record s { core = k; rings = ts }, looks, refl, sound, tt));
+          (record s { core = k; rings = ts }, looks, refl, sound, tt, whole));
       hears = subst (λ (x : TheRun S). HearsFragLast x.offers l h.0 x.core Memory) (sym h.2) h.3;
     }

@@ -53,8 +53,8 @@ same_board b e seat stands = ap (λ (seats : List TheEndAtChannel). record b { s
 
 -- so a call that isn't tried there is one that was refused
 pub calls_nothing : {S : Type 0} (w : SideRelations S) (name : EndId) (call : AnyCall) (s : TheRun S) (e : ℕ) (x : TheEnd) → place_of s.core name ≡ Some e
-    → Holds s.core.board e (λ seat. x ≡ seat.end) → is_busy x.outgoing ≡ true → IsSound s.core → IsSoundAt s name → CallsAt w name call (place_of s.core name) s s
-calls_nothing w name call s e x at holds busy sound sound_at =
+    → Holds s.core.board e (λ seat. x ≡ seat.end) → is_busy x.outgoing ≡ true → IsSound s.core → w.whole s.rings → IsSoundAt s name → CallsAt w name call (place_of s.core name) s s
+calls_nothing w name call s e x at holds busy sound whole sound_at =
     let refused = busy_refuses holds.0.end (call_of call) (subst (λ (y : TheEnd). is_busy y.outgoing ≡ true) holds.2 busy) in
     subst (λ (o : Option ℕ). CallsAt w name call o s s) (sym at) (
       Err refused.fault,
@@ -80,6 +80,7 @@ calls_nothing w name call s e x at holds busy sound sound_at =
         refl,
         sound,
         sound_at,
+        whole,
       ),
       refused.memory,
     )

@@ -1,5 +1,5 @@
 -- What is done over what is lent is done over the side's state, and what else was lent stays as it was.
-use Rattle.std.proofs.Common.{◌≡◌, refl, sym, ap, ◌∙◌, ℕ, ◌⊎◌, inl, inr, List, slice_get, slice_set, Some, Result, Ok, Err}
+use Rattle.std.proofs.Common.{◌≡◌, sym, ap, ◌∙◌, ℕ, inl, inr, List, slice_get, slice_set, Some, Result, Ok, Err}
 use Rattle.std.specs.declared.alloc.AllocError.{AllocError}
 use Rattle.fl_base.specs.declared.fragment.Frag.{Frag}
 use Rattle.fl_base.specs.Control.{bare}
@@ -15,7 +15,7 @@ use Rattle.fl_hop.specs.declared.fault.HopFault.{HopFault}
 use Rattle.fl_hop.specs.declared.fault.HopFault.TheVariants as hop
 use Rattle.fl_hop.specs.declared.forward.ForwardOutcome.{ForwardOutcome}
 use Rattle.fl_hop.specs.declared.forward.ForwardOutcome.TheVariants as outcome
-use Rattle.fl_hop.specs.Forward.{LinkOfTable, Finds, BeforeAfter}
+use Rattle.fl_hop.specs.Forward.{LinkOfTable, Finds}
 use Rattle.fl_hop.specs.Forward.{Leaves as LeavesThere}
 use Rattle.fl_endpoint.specs.declared.fault.EndFault.{EndFault}
 use Rattle.fl_endpoint.specs.declared.fault.EndFault.TheVariants as end
@@ -33,9 +33,9 @@ use Rattle.fl_core.specs.declared.turn_answer.AckAnswer.{AckAnswer}
 use Rattle.fl_core.specs.declared.turn_answer.AckAnswer.TheVariants as ack
 use Rattle.fl_core.specs.declared.board_fault.BoardFault.{BoardFault}
 use Rattle.fl_core.specs.declared.board_fault.BoardFault.TheVariants as board
-use Rattle.fl_core.specs.BoardView.{TheBoard, channel_of}
+use Rattle.fl_core.specs.BoardView.{TheBoard}
 use Rattle.fl_core.specs.BoardEvents.{Holds, Acks}
-use Rattle.fl_core.specs.BoardTurns.{WaitsIn, ListsAndSide, lent, EndMoment, moment, over, GoesOn, TakesOne, Gives, IsQuiet, Examines, LooksAt, Turns}
+use Rattle.fl_core.specs.BoardTurns.{WaitsIn, lent, moment, over, TakesOne, Gives, IsQuiet, Examines, LooksAt, Turns}
 use Rattle.fl_core.specs.declared.answer.MonitorAnswer.{MonitorAnswer}
 use Rattle.fl_core.specs.declared.answer.MonitorAnswer.TheVariants as monitor
 use Rattle.fl_core.specs.declared.answer.MonitorWrite.{MonitorWrite}

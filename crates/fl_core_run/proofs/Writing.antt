@@ -53,7 +53,7 @@ module _ {S : Type 0} (w : SideRelations S) (s : TheRun S) (place : Option ℕ) 
   none_lent lent = λ name at. subst (λ (o : Option LentPutEnd). WritesFrom w name o s s) (post_is name None at lent) refl
 
   pub wrote_there : (post : LentPutEnd) (answer : Result WriteAnswer EndFault) (t : TheRun S) → Some post ≡ lent_post_at s e → WritesOver w e post.outlet answer s t
-      → IsSound s.core → OfPlace (Some e) s (λ name. IsSoundAt s name) → OfPlace place s (λ name. WritesFrom w name (lent_post s name) s t)
-  wrote_there post answer t lent wrote sound sound_at = λ name at.
+      → IsSound s.core → w.whole s.rings → OfPlace (Some e) s (λ name. IsSoundAt s name) → OfPlace place s (λ name. WritesFrom w name (lent_post s name) s t)
+  wrote_there post answer t lent wrote sound whole sound_at = λ name at.
       subst (λ (o : Option LentPutEnd). WritesFrom w name o s t) (post_is name (Some post) at lent)
-      (answer, (t, (e, at ∙ is, wrote), refl, sound, sound_at name (at ∙ is)))
+      (answer, (t, (e, at ∙ is, wrote), refl, sound, sound_at name (at ∙ is), whole))

@@ -1,5 +1,6 @@
 -- The promises rest on these, in this order.
 pub mod EndProgress
+pub mod Sides
 pub mod Run
 pub mod LogEntries
 pub mod Steps

@@ -230,6 +230,6 @@ ActsSoundly (wrote name out answer) s = IsSoundAt s name
 ActsSoundly (turned d name from answer) s = IsSoundAt s name
 ActsSoundly log_entry s = Unit {0}
 
--- it is done, by a core and an end of which that is known, and noted
+-- it is done, by a core, sides and an end of which that is known, and noted
 abbrev pub Happens : {S : Type 0} → SideRelations S → LogEntry → TheRun S → TheRun S → Type 0
-Happens {S} w log_entry s t = (m : TheRun S) × Does w log_entry s m × Notes log_entry m t × IsSound s.core × ActsSoundly log_entry s
+Happens {S} w log_entry s t = (m : TheRun S) × Does w log_entry s m × Notes log_entry m t × IsSound s.core × ActsSoundly log_entry s × w.whole s.rings

@@ -4,7 +4,6 @@ use Rattle.std.specs.Global.{Vec}
 use Rattle.fl_base.specs.declared.identity.EndId.{EndId}
 use Rattle.fl_base.specs.declared.identity.LinkId.{LinkId}
 use Rattle.fl_base.specs.Given.{given}
-use Rattle.fl_link.specs.Looks.{Look}
 use Rattle.fl_link.specs.Queue.{TheQueue}
 use Rattle.fl_core.specs.BoardView.{due}
 use Rattle.fl_core.specs.declared.wiring.Outlet.{Outlet}
@@ -13,6 +12,7 @@ use Rattle.fl_core.specs.declared.wiring.Inlet.{Inlet}
 use Rattle.fl_core.specs.declared.wiring.Inlet.TheVariants as inlet
 use Rattle.fl_core.specs.View.{TheCore, place_of, side_of_link, outlet_of, inlet_of}
 use Rattle.fl_core.specs.Hearing.{Offers}
+pub use Rattle.fl_core_run.specs.Sides.{SideRelations, ways}
 use Rattle.fl_core_run.specs.EndProgress.{TheEndProgress, progress_place, ChangesIf}
 use Rattle.fl_core.specs.declared.core_job.CoreJob.{CoreJob}
 use Rattle.fl_core_run.specs.declared.lent.LentTakeEnd.{LentTakeEnd}
@@ -21,15 +21,6 @@ use Rattle.fl_core_run.specs.declared.lent.LentRingEnd.{LentRingEnd}
 use Rattle.fl_core_run.specs.declared.running.RunningCore.{RunningCore}
 
 -- ---- what is worked on
-
--- what a kind of side does: how it puts, how it looks, takes and tells, and what the last look saw
-pub record SideRelations (S : Type 0) : Type 1 where
-  pub puts : S → Look → S → Type 0
-  pub takes : S → Look → S → Type 0
-  pub front : S → Look
-
-abbrev pub ways : {S : Type 0} → (S → Look → S → Type 0) → (S → Look → S → Type 0) → (S → Look) → SideRelations S
-ways puts takes front = record { puts = puts; takes = takes; front = front }
 
 pub record TheRun (S : Type 0) : Type 0 where
   pub core : TheCore
@@ -55,7 +46,21 @@ run_by states r = record {
 abbrev pub run_of : {S : Type 0} → RunningCore (Vec S) → TheRun S
 run_of r = run_by (λ v. v.items) r
 
--- the same over other sides
+-- a running core over other sides
+abbrev pub with_rings : {R Q : Type 0} → Q → RunningCore R → RunningCore Q
+with_rings rings r = record {
+  alloc = r.alloc;
+  core = r.core;
+  rings = rings;
+  queues = r.queues;
+  progresses = r.progresses;
+  names = r.names;
+  programs = r.programs;
+  spare = r.spare;
+  idle = r.idle;
+}
+
+-- what is worked on, over other sides
 abbrev pub over : {S T : Type 0} → List T → TheRun S → TheRun T
 over rings s = record { core = s.core; rings = rings; queues = s.queues; progresses = s.progresses; offers = s.offers }
 

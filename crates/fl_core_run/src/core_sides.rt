@@ -3,13 +3,14 @@
 ghost use Rattle.std.specs.Prelude.{◌≡◌, ◌<◌, ℕ, List, length, slice_get, slice_set, Some};
 ghost use Rattle.std.specs.Borrow.{sem, Lends};
 ghost use Rattle.fl_link.specs.Looks.{Look};
+ghost use Rattle.fl_core_run.specs.Sides.{SideRelations, ways};
 
 use fl_link::{PutSide, TakeSide};
 
 /// A core's sides, by the numbers by which the core names them. One at a time is lent.
 ///
 /// Contracts see them as a list of states, `states`. A step of the side that is lent is one of its state, by the relations
-/// `puts` and `takes`, and changes no other's: so the laws below say. What else is lent with a side, as a seat that all of a
+/// of `ways`, and changes no other's: so the laws below say. What else is lent with a side, as a seat that all of a
 /// core's sides share, is up to the sides.
 pub trait CoreSides {
     /// A side, while it is lent.
@@ -32,15 +33,16 @@ pub trait CoreSides {
     // All sides, once what was lent as the side of this number came back so.
     ghost returned: { Self → ℕ → Self.Lent → Self };
 
-    ghost puts: { State → Look → State → Type 0 };
-
-    ghost takes: { State → Look → State → Type 0 };
-
-    ghost front: { State → Look };
+    // What they do, and what is known of all of them together.
+    ghost ways: { SideRelations State };
 
     /// How many there are.
     fn count(&self) -> usize
         ensures count { result ≡ length (states self.now) };
+
+    /// What is known of all of them together. It does nothing.
+    fn shows(&self)
+        ensures whole { ways.whole (states self.now) };
 
     /// The side of this number, lent.
     fn side(&mut self, n: usize) -> &mut Self::Lent
@@ -54,12 +56,12 @@ pub trait CoreSides {
         → states (returned ss n b) ≡ slice_set (states ss) n (state_of b) };
 
     ghost puts_are: { (a : Self.Lent) (look : Look) (b : Self.Lent) → Self.Lent.puts a look b
-        → puts (state_of a) look (state_of b) × (rest_of a ≡ rest_of b) };
+        → ways.puts (state_of a) look (state_of b) × (rest_of a ≡ rest_of b) };
 
     ghost takes_are: { (a : Self.Lent) (look : Look) (b : Self.Lent) → Self.Lent.takes a look b
-        → takes (state_of a) look (state_of b) × (rest_of a ≡ rest_of b) };
+        → ways.takes (state_of a) look (state_of b) × (rest_of a ≡ rest_of b) };
 
-    ghost front_is: { (a : Self.Lent) → Self.Lent.front a ≡ front (state_of a) };
+    ghost front_is: { (a : Self.Lent) → Self.Lent.front a ≡ ways.front (state_of a) };
 }
 
 impl<S: PutSide + TakeSide> CoreSides for Vec<S> {
@@ -82,16 +84,15 @@ impl<S: PutSide + TakeSide> CoreSides for Vec<S> {
 
     ghost returned = { λ v n a. with_item v n a };
 
-    ghost puts = { S.puts };
-
-    ghost takes = { S.takes };
-
-    ghost front = { S.front };
+    ghost ways = { ways S.puts S.takes S.front };
 
     #[inline(always)]
     fn count(&self) -> usize {
         self.len()
     }
+
+    #[inline(always)]
+    fn shows(&self) {}
 
     #[inline(always)]
     fn side(&mut self, n: usize) -> &mut S {

@@ -5,7 +5,7 @@ ghost use Rattle.fl_value_data.specs.declared.value.Call.{Call as TheCall};
 ghost use Rattle.fl_core.specs.BoardView.{due};
 ghost use Rattle.fl_core.specs.declared.turn_answer.TurnAnswer.TheVariants.{Handle};
 ghost use Rattle.fl_core.specs.View.{inlet_of};
-ghost use Rattle.fl_core_run.specs.Run.{ways, run_by, lends_in};
+ghost use Rattle.fl_core_run.specs.Run.{run_by, lends_in};
 ghost use Rattle.fl_core_run.specs.Inside.{OfProgress};
 ghost use Rattle.fl_core_run.specs.LogEntries.{dispatcher_turn, TurnsOver, NotesTurned};
 ghost use Rattle.fl_core_run.specs.Steps.{awaits, TakesTurn};
@@ -31,7 +31,8 @@ fn turn_over<S: CoreSides>(
     requires due { due run.old.core.board dispatcher ≡ Some e }
     requires inlet { inlet_of run.old.core e ≡ Some inlet }
     requires lent { lends_in (run_by S.states run.old) inlet ≡ true }
-    ensures turns { TurnsOver (ways S.puts S.takes S.front) (dispatcher_turn dispatcher e result) inlet (run_by S.states run.old) (run_by S.states run.new) }
+    ensures turns { TurnsOver S.ways (dispatcher_turn dispatcher e result) inlet
+        (run_by S.states run.old) (run_by S.states run.new) }
 {
     match inlet {
         Inlet::Queue(n) => run.core.turn(dispatcher, e, &mut run.queues[n]),
@@ -76,7 +77,8 @@ pub(crate) fn awaits<S: CoreSides>(
     progress: Option<usize>,
 ) -> bool
     requires there { IfSome progress (λ n. n < length run.now.progresses.items) }
-    ensures awaits { OfProgress progress (run_by S.states run.now) (λ name. result ≡ awaits jobs.now (run_by S.states run.now) name) }
+    ensures awaits { OfProgress progress (run_by S.states run.now)
+        (λ name. result ≡ awaits jobs.now (run_by S.states run.now) name) }
 {
     match next_job(run, jobs, progress) {
         None => false,
@@ -94,8 +96,10 @@ pub(crate) fn turn<S: CoreSides>(
     jobs: &[CoreJob],
     dispatcher: usize,
 ) -> Result<(), AllocError>
-    ensures turns { OnOk result (TakesTurn (ways S.puts S.takes S.front) jobs.now dispatcher (run_by S.states run.old) (run_by S.states run.new)) }
-    ensures left { OnErr result (LeavesTurn (ways S.puts S.takes S.front) jobs.now dispatcher (run_by S.states run.old) (run_by S.states run.new)) }
+    ensures turns { OnOk result (TakesTurn S.ways jobs.now dispatcher
+        (run_by S.states run.old) (run_by S.states run.new)) }
+    ensures left { OnErr result (LeavesTurn S.ways jobs.now dispatcher
+        (run_by S.states run.old) (run_by S.states run.new)) }
 {
     law_sound(run);
     let Some(at) = lent_due(run, dispatcher) else {
@@ -117,8 +121,9 @@ pub(crate) fn turn_all<S: CoreSides>(
     jobs: &[CoreJob],
     dispatchers: usize,
 ) -> Result<(), AllocError>
-    ensures turns { OnOk result (Swept (TakesTurn (ways S.puts S.takes S.front) jobs.now) dispatchers (run_by S.states run.old) (run_by S.states run.new)) }
-    ensures stops { OnErr result (StopsIn (TakesTurn (ways S.puts S.takes S.front) jobs.now) (LeavesTurn (ways S.puts S.takes S.front) jobs.now) dispatchers
+    ensures turns { OnOk result (Swept (TakesTurn S.ways jobs.now) dispatchers
+        (run_by S.states run.old) (run_by S.states run.new)) }
+    ensures stops { OnErr result (StopsIn (TakesTurn S.ways jobs.now) (LeavesTurn S.ways jobs.now) dispatchers
         (run_by S.states run.old) (run_by S.states run.new)) }
 {
     for dispatcher in 0..dispatchers {

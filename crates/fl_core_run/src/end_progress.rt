@@ -1,6 +1,6 @@
 //! Where the jobs of an end lie, and what came of it.
 
-ghost use Rattle.std.specs.Prelude.{◌≡◌, ◌<◌, [], length, slice_get, IfOk, IfSome, OnOk, OnErr};
+ghost use Rattle.std.specs.Prelude.{◌≡◌, ◌<◌, [], length, slice_get, IfSome, OnOk, OnErr};
 ghost use Rattle.fl_core_run.specs.EndProgress.{advanced, is_clear, with_handled, with_refusal, progress_place};
 
 use fl_base::{EndId, MAX_BINDINGS};

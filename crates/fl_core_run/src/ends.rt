@@ -3,7 +3,7 @@
 ghost use Rattle.std.specs.Prelude.{◌≡◌, ◌<◌, true, length, Some, None, IfSome, IfNone, IfOk, OnOk, OnErr};
 ghost use Rattle.fl_value_data.specs.Value.{call_of};
 ghost use Rattle.fl_core.specs.View.{place_of};
-ghost use Rattle.fl_core_run.specs.Run.{ways, run_by, AtProgress, lends_out, lent_post, next_at, next_job};
+ghost use Rattle.fl_core_run.specs.Run.{run_by, AtProgress, lends_out, lent_post, next_at, next_job};
 ghost use Rattle.fl_core_run.specs.EndProgress.{advanced, progress_place};
 ghost use Rattle.fl_core_run.specs.Inside.{HasLeft, OfProgress, OfPlace, IsPlaceOf};
 ghost use Rattle.fl_core_run.specs.LogEntries.{WritesOver};
@@ -61,7 +61,8 @@ fn is_memory(answer: Result<(), EndFault>) -> bool
 // The next job by an end's progress is done.
 pub(crate) fn advance<S: CoreSides>(run: &mut RunningCore<S>, progress: Option<usize>)
     requires left { HasLeft run.old.progresses.items progress }
-    ensures advanced { OfProgress progress (run_by S.states run.old) (λ name. AtProgress name advanced (run_by S.states run.old) (run_by S.states run.new)) }
+    ensures advanced { OfProgress progress (run_by S.states run.old) (λ name. AtProgress name advanced
+        (run_by S.states run.old) (run_by S.states run.new)) }
 {
     match progress {
         None => (),
@@ -78,7 +79,7 @@ fn try_call<S: CoreSides>(
 ) -> Result<Option<usize>, AllocError>
     requires found { progress_place run.old.progresses.items name ≡ progress }
     requires left { HasLeft run.old.progresses.items progress }
-    ensures calls { OnOk result (CallsAt (ways S.puts S.takes S.front) name next.now (place_of run.old.core name)
+    ensures calls { OnOk result (CallsAt S.ways name next.now (place_of run.old.core name)
         (run_by S.states run.old) (run_by S.states run.new)) }
     ensures place { IfOk result (λ place. IsPlaceOf run.new.core name place) }
     ensures kept { OnErr result (run_by S.states run.new ≡ run_by S.states run.old) }
@@ -117,7 +118,7 @@ fn try_rule<S: CoreSides>(
 ) -> Option<usize>
     requires found { progress_place run.old.progresses.items name ≡ progress }
     requires left { HasLeft run.old.progresses.items progress }
-    ensures rules { RulesAt (ways S.puts S.takes S.front) (reply_rule name msg reply) (place_of run.old.core name)
+    ensures rules { RulesAt S.ways (reply_rule name msg reply) (place_of run.old.core name)
         (run_by S.states run.old) (run_by S.states run.new) }
     ensures place { IsPlaceOf run.new.core name result }
 {
@@ -142,11 +143,12 @@ pub(crate) fn try_job<S: CoreSides>(
     jobs: &[CoreJob],
     name: EndId,
 ) -> Result<Option<usize>, AllocError>
-    ensures tries { OnOk result (Tries (ways S.puts S.takes S.front) name (next_job jobs.now (run_by S.states run.old) name)
+    ensures tries { OnOk result (Tries S.ways name (next_job jobs.now (run_by S.states run.old) name)
         (run_by S.states run.old) (run_by S.states run.new)) }
     ensures place { IfOk result (λ place. IsPlaceOf run.new.core name place) }
     ensures kept { OnErr result (run_by S.states run.new ≡ run_by S.states run.old) }
-    ensures does { OnErr result (DoesJob (run_by S.states run.old) name (next_job jobs.now (run_by S.states run.old) name)) }
+    ensures does { OnErr result (DoesJob
+        (run_by S.states run.old) name (next_job jobs.now (run_by S.states run.old) name)) }
 {
     let progress = run.progress_of(name);
     match next_job(run, jobs, progress) {
@@ -172,7 +174,7 @@ fn write_to<S: CoreSides>(
 ) -> Result<WriteAnswer, EndFault>
     requires there { e < length run.old.core.board.seats }
     requires lent { lends_out (run_by S.states run.old) outlet ≡ true }
-    ensures wrote { WritesOver (ways S.puts S.takes S.front) e outlet result (run_by S.states run.old) (run_by S.states run.new) }
+    ensures wrote { WritesOver S.ways e outlet result (run_by S.states run.old) (run_by S.states run.new) }
 {
     match outlet {
         Outlet::Queue(n) => run.core.write(e, &mut run.queues[n]),
@@ -183,7 +185,8 @@ fn write_to<S: CoreSides>(
 // One write of the end at a place, if it is at the core.
 pub(crate) fn write<S: CoreSides>(run: &mut RunningCore<S>, place: Option<usize>)
     requires there { IfSome place (λ e. e < length run.old.core.board.seats) }
-    ensures writes { OfPlace place (run_by S.states run.old) (λ name. WritesFrom (ways S.puts S.takes S.front) name (lent_post (run_by S.states run.old) name)
+    ensures writes { OfPlace place (run_by S.states run.old)
+        (λ name. WritesFrom S.ways name (lent_post (run_by S.states run.old) name)
         (run_by S.states run.old) (run_by S.states run.new)) }
 {
     law_sound(run);
@@ -211,8 +214,9 @@ pub(crate) fn serve_all<S: CoreSides>(
     ends: &[EndId],
     jobs: &[CoreJob],
 ) -> Result<(), AllocError>
-    ensures serves { OnOk result (ForEach ends.now (Serves (ways S.puts S.takes S.front) jobs.now) (run_by S.states run.old) (run_by S.states run.new)) }
-    ensures stops { OnErr result (StopsAmong ends.now (Serves (ways S.puts S.takes S.front) jobs.now) (LeavesJob jobs.now)
+    ensures serves { OnOk result (ForEach ends.now (Serves S.ways jobs.now)
+        (run_by S.states run.old) (run_by S.states run.new)) }
+    ensures stops { OnErr result (StopsAmong ends.now (Serves S.ways jobs.now) (LeavesJob jobs.now)
         (run_by S.states run.old) (run_by S.states run.new)) }
 {
     for k in 0..ends.len() {
@@ -226,7 +230,7 @@ pub(crate) fn serve_all<S: CoreSides>(
 
 // One acknowledgement of an end, where it is a ring's.
 pub(crate) fn ack<S: CoreSides>(run: &mut RunningCore<S>, name: EndId)
-    ensures acks { Acknowledges (ways S.puts S.takes S.front) name (run_by S.states run.old) (run_by S.states run.new) }
+    ensures acks { Acknowledges S.ways name (run_by S.states run.old) (run_by S.states run.new) }
 {
     law_sound(run);
     match lent_ring_end(run, name) {
@@ -239,7 +243,7 @@ pub(crate) fn ack<S: CoreSides>(run: &mut RunningCore<S>, name: EndId)
 
 /// An acknowledgement for each end of a ring.
 pub(crate) fn ack_all<S: CoreSides>(run: &mut RunningCore<S>, ends: &[EndId])
-    ensures acks { ForEach ends.now (Acknowledges (ways S.puts S.takes S.front)) (run_by S.states run.old) (run_by S.states run.new) }
+    ensures acks { ForEach ends.now (Acknowledges S.ways) (run_by S.states run.old) (run_by S.states run.new) }
 {
     for k in 0..ends.len() {
         ack(run, ends[k]);

@@ -2,7 +2,7 @@
 
 ghost use Rattle.std.specs.Prelude.{◌≡◌, ◌<◌, length, true, Some, IfSome};
 ghost use Rattle.fl_core.specs.BoardView.{due};
-ghost use Rattle.fl_core.specs.View.{place_of, inlet_of, outlet_of};
+ghost use Rattle.fl_core.specs.View.{place_of, inlet_of};
 ghost use Rattle.fl_core.specs.declared.wiring.Inlet.TheVariants.{Side};
 ghost use Rattle.fl_core_run.specs.Run.{run_by, lent_link_side, lends_out, lends_in, lent_post_at, lent_due, lent_ring_end};
 

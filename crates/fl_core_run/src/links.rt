@@ -3,7 +3,7 @@
 ghost use Rattle.std.specs.Prelude.{◌≡◌, ◌≢◌, ◌<◌, false, length, Ok, IfOk, OnOk, OnErr};
 ghost use Rattle.fl_base.specs.Control.{is_ack_only, with_circuit};
 ghost use Rattle.fl_base.specs.declared.fragment.Frag.{Frag as TheFrag};
-ghost use Rattle.fl_core_run.specs.Run.{ways, run_by};
+ghost use Rattle.fl_core_run.specs.Run.{run_by};
 ghost use Rattle.fl_core_run.specs.LogEntries.{passed, arrived, heard, Does, NotesHeard};
 ghost use Rattle.fl_core_run.specs.Steps.{lacks_to_hear, HandsOut, Forwards, Says, Tells};
 ghost use Rattle.fl_core_run.specs.Turn.{ForEach};
@@ -43,12 +43,13 @@ fn hear<S: CoreSides>(
 ) -> Result<Result<MonitorAnswer, LinkReceiveFault>, AllocError>
     requires side { n < length (S.states run.old.rings) }
     requires link { link.0 < length run.old.core.link_sides }
-    requires seen { Fronts (ways S.puts S.takes S.front) n frag.now (run_by S.states run.old) }
-    ensures heard { IfOk result (λ answer. Does (ways S.puts S.takes S.front) (heard n link frag.now answer) (run_by S.states run.old)
+    requires seen { Fronts S.ways n frag.now (run_by S.states run.old) }
+    ensures heard { IfOk result (λ answer. Does S.ways (heard n link frag.now answer) (run_by S.states run.old)
         (run_by S.states run.new)) }
     ensures memory { IfOk result (λ answer. lacks_to_hear answer ≡ false) }
     ensures kept { OnErr result (run_by S.states run.new ≡ run_by S.states run.old) }
-    ensures last { OnErr result (HearsFragLast (run_by S.states run.old).offers link frag.now run.old.core LinkReceiveFault.Memory) }
+    ensures last { OnErr result (HearsFragLast
+        (run_by S.states run.old).offers link frag.now run.old.core LinkReceiveFault.Memory) }
 {
     let answer = over::hear(
         &mut run.core,
@@ -91,9 +92,10 @@ fn cross<S: CoreSides>(
     requires from { from < length (S.states run.old.rings) }
     requires to { to < length (S.states run.old.rings) }
     requires two { from ≢ to }
-    requires seen { Fronts (ways S.puts S.takes S.front) from frag.now (run_by S.states run.old) }
+    requires seen { Fronts S.ways from frag.now (run_by S.states run.old) }
     requires call { is_ack_only (with_circuit circuit.0 frag.now) ≡ false }
-    ensures passed { Does (ways S.puts S.takes S.front) (passed from to frag.now circuit result) (run_by S.states run.old) (run_by S.states run.new) }
+    ensures passed { Does S.ways (passed from to frag.now circuit result)
+        (run_by S.states run.old) (run_by S.states run.new) }
 {
     let sent = frag.with_circuit(circuit);
     match over::put(&mut run.rings, to, &sent) {
@@ -117,9 +119,10 @@ fn arrive<S: CoreSides>(
 ) -> Result<ForwardOutcome, LinkReceiveFault>
     requires side { n < length (S.states run.old.rings) }
     requires link { link.0 < length run.old.core.link_sides }
-    requires seen { Fronts (ways S.puts S.takes S.front) n frag.now (run_by S.states run.old) }
+    requires seen { Fronts S.ways n frag.now (run_by S.states run.old) }
     requires call { is_ack_only (with_circuit 0 frag.now) ≡ false }
-    ensures arrived { Does (ways S.puts S.takes S.front) (arrived n link frag.now end result) (run_by S.states run.old) (run_by S.states run.new) }
+    ensures arrived { Does S.ways (arrived n link frag.now end result)
+        (run_by S.states run.old) (run_by S.states run.new) }
 {
     over::arrive(&mut run.core, &mut run.rings, n, link, frag, end)
 }
@@ -133,8 +136,8 @@ fn hand_out<S: CoreSides>(
 ) -> Result<(), AllocError>
     requires side { n < length (S.states run.old.rings) }
     requires link { link.0 < length run.old.core.link_sides }
-    requires foreseen { Foresees (ways S.puts S.takes S.front) n found (run_by S.states run.old) }
-    ensures hands_out { OnOk result (HandsOut (ways S.puts S.takes S.front) n link found (run_by S.states run.old) (run_by S.states run.new)) }
+    requires foreseen { Foresees S.ways n found (run_by S.states run.old) }
+    ensures hands_out { OnOk result (HandsOut S.ways n link found (run_by S.states run.old) (run_by S.states run.new)) }
     ensures left { OnErr result ((frag : TheFrag) × (found ≡ Ok (Message frag)) × (run_by S.states run.new ≡ run_by S.states run.old)
         × HearsFragLast (run_by S.states run.old).offers link frag run.old.core LinkReceiveFault.Memory) }
 {
@@ -171,8 +174,8 @@ pub(crate) fn forward<S: CoreSides>(
     run: &mut RunningCore<S>,
     link: LinkId,
 ) -> Result<(), AllocError>
-    ensures forwards { OnOk result (Forwards (ways S.puts S.takes S.front) link (run_by S.states run.old) (run_by S.states run.new)) }
-    ensures left { OnErr result (LeavesMessage (ways S.puts S.takes S.front) link (run_by S.states run.old) (run_by S.states run.new)) }
+    ensures forwards { OnOk result (Forwards S.ways link (run_by S.states run.old) (run_by S.states run.new)) }
+    ensures left { OnErr result (LeavesMessage S.ways link (run_by S.states run.old) (run_by S.states run.new)) }
 {
     law_sound(run);
     match lent_link_side(run, link) {
@@ -189,8 +192,9 @@ pub(crate) fn forward_all<S: CoreSides>(
     run: &mut RunningCore<S>,
     links: &[LinkId],
 ) -> Result<(), AllocError>
-    ensures forwards { OnOk result (ForEach links.now (Forwards (ways S.puts S.takes S.front)) (run_by S.states run.old) (run_by S.states run.new)) }
-    ensures stops { OnErr result (StopsAmong links.now (Forwards (ways S.puts S.takes S.front)) (LeavesMessage (ways S.puts S.takes S.front))
+    ensures forwards { OnOk result (ForEach links.now (Forwards S.ways)
+        (run_by S.states run.old) (run_by S.states run.new)) }
+    ensures stops { OnErr result (StopsAmong links.now (Forwards S.ways) (LeavesMessage S.ways)
         (run_by S.states run.old) (run_by S.states run.new)) }
 {
     for k in 0..links.len() {
@@ -203,7 +207,7 @@ pub(crate) fn forward_all<S: CoreSides>(
 
 // One monitor write.
 pub(crate) fn say<S: CoreSides>(run: &mut RunningCore<S>, link: LinkId)
-    ensures says { Says (ways S.puts S.takes S.front) link (run_by S.states run.old) (run_by S.states run.new) }
+    ensures says { Says S.ways link (run_by S.states run.old) (run_by S.states run.new) }
 {
     law_sound(run);
     match lent_link_side(run, link) {
@@ -216,7 +220,7 @@ pub(crate) fn say<S: CoreSides>(run: &mut RunningCore<S>, link: LinkId)
 
 /// A monitor write for each link.
 pub(crate) fn say_all<S: CoreSides>(run: &mut RunningCore<S>, links: &[LinkId])
-    ensures says { ForEach links.now (Says (ways S.puts S.takes S.front)) (run_by S.states run.old) (run_by S.states run.new) }
+    ensures says { ForEach links.now (Says S.ways) (run_by S.states run.old) (run_by S.states run.new) }
 {
     for k in 0..links.len() {
         say(run, links[k]);
@@ -227,7 +231,7 @@ pub(crate) fn say_all<S: CoreSides>(run: &mut RunningCore<S>, links: &[LinkId])
 
 // One acknowledgement.
 pub(crate) fn tell<S: CoreSides>(run: &mut RunningCore<S>, link: LinkId)
-    ensures tells { Tells (ways S.puts S.takes S.front) link (run_by S.states run.old) (run_by S.states run.new) }
+    ensures tells { Tells S.ways link (run_by S.states run.old) (run_by S.states run.new) }
 {
     law_sound(run);
     match lent_link_side(run, link) {
@@ -240,7 +244,7 @@ pub(crate) fn tell<S: CoreSides>(run: &mut RunningCore<S>, link: LinkId)
 
 /// An acknowledgement for each link.
 pub(crate) fn tell_all<S: CoreSides>(run: &mut RunningCore<S>, links: &[LinkId])
-    ensures tells { ForEach links.now (Tells (ways S.puts S.takes S.front)) (run_by S.states run.old) (run_by S.states run.new) }
+    ensures tells { ForEach links.now (Tells S.ways) (run_by S.states run.old) (run_by S.states run.new) }
 {
     for k in 0..links.len() {
         tell(run, links[k]);

@@ -1,7 +1,7 @@
 //! A job that opens a circuit.
 
 ghost use Rattle.std.specs.Prelude.{◌≡◌, ◌<◌, length, IfOk, OnOk, OnErr};
-ghost use Rattle.fl_core_run.specs.Run.{ways, run_by, AtProgress};
+ghost use Rattle.fl_core_run.specs.Run.{run_by, AtProgress};
 ghost use Rattle.fl_core_run.specs.EndProgress.{advanced, with_refusal};
 ghost use Rattle.fl_core_run.specs.Inside.{HasLeft, OfProgress};
 ghost use Rattle.fl_core_run.specs.LogEntries.{IsCopyOf, NotesOpened};
@@ -63,7 +63,8 @@ fn is_memory(answer: Result<usize, OpenFault>) -> bool
 fn refuse<S: CoreSides>(run: &mut RunningCore<S>, progress: Option<usize>, number: u32)
     requires left { HasLeft run.old.progresses.items progress }
     ensures refused { OfProgress progress (run_by S.states run.old)
-        (λ name. AtProgress name (λ d. advanced (with_refusal number d)) (run_by S.states run.old) (run_by S.states run.new)) }
+        (λ name. AtProgress name (λ d. advanced (with_refusal number d))
+        (run_by S.states run.old) (run_by S.states run.new)) }
 {
     match progress {
         None => (),
@@ -82,7 +83,8 @@ fn note<S: CoreSides>(
     answer: Result<usize, OpenFault>,
 )
     requires left { HasLeft run.old.progresses.items progress }
-    ensures notes { OfProgress progress (run_by S.states run.old) (λ name. NotesOpened name answer (run_by S.states run.old) (run_by S.states run.new)) }
+    ensures notes { OfProgress progress (run_by S.states run.old) (λ name. NotesOpened name answer
+        (run_by S.states run.old) (run_by S.states run.new)) }
 {
     match answer {
         Ok(_) => advance(run, progress),
@@ -103,7 +105,7 @@ pub(crate) fn open<S: CoreSides>(
 ) -> Result<(), AllocError>
     requires left { HasLeft run.old.progresses.items progress }
     ensures opens { OnOk result (OfProgress progress (run_by S.states run.old)
-        (λ name. OpensIf (ways S.puts S.takes S.front) (may_ask (run_by S.states run.old) request.now) name
+        (λ name. OpensIf S.ways (may_ask (run_by S.states run.old) request.now) name
         request.now (run_by S.states run.old) (run_by S.states run.new))) }
     ensures kept { OnErr result (run_by S.states run.new ≡ run_by S.states run.old) }
     ensures begins { OnErr result (BeginsCircuit (run_by S.states run.old) request.now) }

@@ -78,7 +78,8 @@ fn exchange_at<S: CoreSides>(
     requires end { k < length ends.now }
     requires word { k < length words.old }
     requires may { AreWords words.old seat.old.knows }
-    ensures exchanges { ExchangesAt (run_by S.states run.now) ends.now k (stock words.old seat.old) (stock words.new seat.new) }
+    ensures exchanges { ExchangesAt
+        (run_by S.states run.now) ends.now k (stock words.old seat.old) (stock words.new seat.new) }
     ensures as_many { length words.new ≡ length words.old }
     ensures may { AreWords words.new seat.new.knows }
     ensures quiet { SaidNothing seat.old seat.new }
@@ -96,7 +97,8 @@ pub(crate) fn exchange_all<S: CoreSides>(
 )
     requires as_many { length words.old ≡ length ends.now }
     requires may { AreWords words.old seat.old.knows }
-    ensures exchanges { ExchangesAll (run_by S.states run.now) ends.now (stock words.old seat.old) (stock words.new seat.new) }
+    ensures exchanges { ExchangesAll
+        (run_by S.states run.now) ends.now (stock words.old seat.old) (stock words.new seat.new) }
     ensures as_many { length words.new ≡ length ends.now }
     ensures may { AreWords words.new seat.new.knows }
     ensures quiet { SaidNothing seat.old seat.new }

@@ -36,7 +36,8 @@ pub(crate) fn look<S: CoreSides>(
 ) -> Result<LinkFront, LinkReceiveFault>
     requires side { n < length (S.states sides.old) }
     requires link { link.0 < length core.old.link_sides }
-    ensures looks { OverSide n (S.states sides.old) (λ p q. LooksAhead S.takes S.front link.0 (at_side core.old p) result (at_side core.new q))
+    ensures looks { OverSide n (S.states sides.old)
+        (λ p q. LooksAhead S.ways.takes S.ways.front link.0 (at_side core.old p) result (at_side core.new q))
         (S.states sides.new) }
 {
     core.look(link, sides.side(n))
@@ -54,9 +55,10 @@ pub(crate) fn hear<S: CoreSides>(
 ) -> Result<MonitorAnswer, LinkReceiveFault>
     requires side { n < length (S.states sides.old) }
     requires link { link.0 < length core.old.link_sides }
-    requires seen { StandsFirst S.front n frag.now (S.states sides.old) }
+    requires seen { StandsFirst S.ways.front n frag.now (S.states sides.old) }
     ensures hears { HearsFrag (record { names = names.now; programs = programs.now }) link frag.now core.old result core.new }
-    ensures takes { OverSide n (S.states sides.old) (λ p q. TakesHeard S.takes frag.now p result q) (S.states sides.new) }
+    ensures takes { OverSide n (S.states sides.old) (λ p q. TakesHeard S.ways.takes frag.now p result q)
+        (S.states sides.new) }
     ensures last { IfErr result (HearsFragLast (record { names = names.now; programs = programs.now }) link frag.now core.old) }
 {
     core.hear(link, sides.side(n), frag, names, programs)
@@ -73,9 +75,10 @@ pub(crate) fn arrive<S: CoreSides>(
 ) -> Result<ForwardOutcome, LinkReceiveFault>
     requires side { n < length (S.states sides.old) }
     requires link { link.0 < length core.old.link_sides }
-    requires seen { StandsFirst S.front n frag.now (S.states sides.old) }
+    requires seen { StandsFirst S.ways.front n frag.now (S.states sides.old) }
     requires call { is_ack_only (with_circuit 0 frag.now) ≡ false }
-    ensures arrives { OverSide n (S.states sides.old) (λ p q. ArrivesAt S.takes (inbound link.0 frag.now end) (at_side core.old p) result (at_side core.new q))
+    ensures arrives { OverSide n (S.states sides.old)
+        (λ p q. ArrivesAt S.ways.takes (inbound link.0 frag.now end) (at_side core.old p) result (at_side core.new q))
         (S.states sides.new) }
 {
     core.arrive(link, sides.side(n), frag, end)
@@ -89,7 +92,8 @@ pub(crate) fn say<S: CoreSides>(
     link: LinkId,
 ) -> MonitorWrite
     requires side { n < length (S.states sides.old) }
-    ensures writes { OverSide n (S.states sides.old) (λ p q. MonitorWrites S.puts link.0 (at_side core.old p) result (at_side core.new q))
+    ensures writes { OverSide n (S.states sides.old)
+        (λ p q. MonitorWrites S.ways.puts link.0 (at_side core.old p) result (at_side core.new q))
         (S.states sides.new) }
 {
     core.monitor_write(link, sides.side(n))
@@ -99,7 +103,7 @@ pub(crate) fn say<S: CoreSides>(
 pub(crate) fn tell<S: CoreSides>(core: &Core, sides: &mut S, n: usize, link: LinkId) -> AckAnswer
     requires side { n < length (S.states sides.old) }
     requires link { link.0 < length core.now.link_sides }
-    ensures tells { OverSide n (S.states sides.old) (λ p q. Acknowledges S.takes p result q) (S.states sides.new) }
+    ensures tells { OverSide n (S.states sides.old) (λ p q. Acknowledges S.ways.takes p result q) (S.states sides.new) }
 {
     core.monitor_ack(link, sides.side(n))
 }
@@ -110,7 +114,8 @@ pub(crate) fn tell<S: CoreSides>(core: &Core, sides: &mut S, n: usize, link: Lin
 pub(crate) fn put<S: CoreSides>(sides: &mut S, n: usize, frag: &Frag) -> Result<(), PutFault>
     requires side { n < length (S.states sides.old) }
     requires call { is_ack_only frag.now ≡ false }
-    ensures puts { OverSide n (S.states sides.old) (λ p q. S.puts p (put_label frag.now result) q) (S.states sides.new) }
+    ensures puts { OverSide n (S.states sides.old) (λ p q. S.ways.puts p (put_label frag.now result) q)
+        (S.states sides.new) }
 {
     sides.side(n).put(frag)
 }
@@ -118,8 +123,9 @@ pub(crate) fn put<S: CoreSides>(sides: &mut S, n: usize, frag: &Frag) -> Result<
 /// It was seen to stand first there, and is taken.
 pub(crate) fn take<S: CoreSides>(sides: &mut S, n: usize, frag: &Frag) -> Sight
     requires side { n < length (S.states sides.old) }
-    requires seen { StandsFirst S.front n frag.now (S.states sides.old) }
-    ensures takes { OverSide n (S.states sides.old) (λ p q. S.takes p (found (bare frag.now)) q) (S.states sides.new) }
+    requires seen { StandsFirst S.ways.front n frag.now (S.states sides.old) }
+    ensures takes { OverSide n (S.states sides.old) (λ p q. S.ways.takes p (found (bare frag.now)) q)
+        (S.states sides.new) }
 {
     sides.side(n).take()
 }
@@ -135,7 +141,8 @@ pub(crate) fn write<S: CoreSides>(
 ) -> Result<WriteAnswer, EndFault>
     requires side { n < length (S.states sides.old) }
     requires there { e < length core.old.board.seats }
-    ensures writes { OverSide n (S.states sides.old) (λ p q. WritesAt S.puts e (at_side core.old p) result (at_side core.new q)) (S.states sides.new) }
+    ensures writes { OverSide n (S.states sides.old)
+        (λ p q. WritesAt S.ways.puts e (at_side core.old p) result (at_side core.new q)) (S.states sides.new) }
 {
     core.write(e, sides.side(n))
 }
@@ -150,7 +157,8 @@ pub(crate) fn ack<S: CoreSides>(
     requires side { n < length (S.states sides.old) }
     requires there { e < length core.now.board.seats }
     requires lent { arrivals_of core.now e ≡ None }
-    ensures acks { OverSide n (S.states sides.old) (λ p q. Holds core.now.board e (λ seat. Acks S.takes seat.kind seat.end p result q)) (S.states sides.new) }
+    ensures acks { OverSide n (S.states sides.old)
+        (λ p q. Holds core.now.board e (λ seat. Acks S.ways.takes seat.kind seat.end p result q)) (S.states sides.new) }
 {
     core.ack(e, sides.side(n))
 }
@@ -168,7 +176,8 @@ pub(crate) fn turn<S: CoreSides>(
     requires due { due core.old.board dispatcher ≡ Some e }
     requires lent { arrivals_of core.old e ≡ None }
     ensures turns { OverSide n (S.states sides.old)
-        (λ p q. OnBoard core.old (λ b c. Turns S.takes dispatcher e (over b p) result (over c q)) core.new) (S.states sides.new) }
+        (λ p q. OnBoard core.old (λ b c. Turns S.ways.takes dispatcher e (over b p) result (over c q)) core.new)
+        (S.states sides.new) }
 {
     core.turn(dispatcher, e, sides.side(n))
 }

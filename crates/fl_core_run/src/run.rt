@@ -1,7 +1,7 @@
 //! A core's whole run.
 
-ghost use Rattle.std.specs.Prelude.{◌≡◌, ◌+◌, ◌<◌, ◌≤◌, length, OnOk, IfOk, OnErr};
-ghost use Rattle.fl_core_run.specs.Run.{ways, run_by};
+ghost use Rattle.std.specs.Prelude.{◌≡◌, ◌+◌, ◌<◌, length, OnOk, IfOk, OnErr};
+ghost use Rattle.fl_core_run.specs.Run.{run_by};
 ghost use Rattle.fl_core_run.specs.OpeningStatus.{AreWords, ExchangesAll, SaidNothing};
 ghost use Rattle.fl_core_run.specs.Finished.{is_finished};
 ghost use Rattle.fl_core_run.specs.Ran.{run_seat_of, task, moment, Counted, SomeTurns, HaveEnded, CoreRan};
@@ -45,7 +45,8 @@ fn take_stock<S: CoreSides>(run: &RunningCore<S>, plan: &TurnPlan, run_seat: &mu
     requires as_many { length run_seat.old.words.items ≡ length plan.now.ends.items }
     requires may { AreWords run_seat.old.words.items run_seat.old.seat.knows }
     ensures finished { result ≡ is_finished (run_by S.states run.now) plan.now.ends.items run_seat.new.words.items }
-    ensures exchanges { ExchangesAll (run_by S.states run.now) plan.now.ends.items (run_seat_of run_seat.old) (run_seat_of run_seat.new) }
+    ensures exchanges { ExchangesAll
+        (run_by S.states run.now) plan.now.ends.items (run_seat_of run_seat.old) (run_seat_of run_seat.new) }
     ensures seat { SaidNothing run_seat.old.seat run_seat.new.seat }
     ensures as_many { length run_seat.new.words.items ≡ length plan.now.ends.items }
     ensures may { AreWords run_seat.new.words.items run_seat.new.seat.knows }
@@ -66,9 +67,10 @@ fn counted_turns<S: CoreSides, G: Gate>(
 ) -> Result<Part, AllocError>
     requires as_many { length run_seat.old.words.items ≡ length plan.now.ends.items }
     requires may { AreWords run_seat.old.words.items run_seat.old.seat.knows }
-    ensures counted { IfOk result (λ part. Counted (ways S.puts S.takes S.front) (task plan.now jobs.now limit)
+    ensures counted { IfOk result (λ part. Counted S.ways (task plan.now jobs.now limit)
         (moment (run_by S.states run.old) (run_seat_of run_seat.old)) part (moment (run_by S.states run.new) (run_seat_of run_seat.new))) }
-    ensures part { OnErr result (StopsInTurn (ways S.puts S.takes S.front) plan.now jobs.now (run_by S.states run.old) (run_by S.states run.new)) }
+    ensures part { OnErr result (StopsInTurn S.ways plan.now jobs.now
+        (run_by S.states run.old) (run_by S.states run.new)) }
     ensures seat { SaidNothing run_seat.old.seat run_seat.new.seat }
 {
     let core = run.core.monitor().circuits().core();
@@ -111,8 +113,10 @@ fn idle_turns<R: Wait, S: CoreSides, G: Gate>(
     run_seat: &mut RunSeat,
     gate: &G,
 ) -> Result<(), AllocError>
-    ensures turned { OnOk result (SomeTurns (ways S.puts S.takes S.front) plan.now jobs.now (run_by S.states run.old) (run_by S.states run.new)) }
-    ensures part { OnErr result (StopsInTurn (ways S.puts S.takes S.front) plan.now jobs.now (run_by S.states run.old) (run_by S.states run.new)) }
+    ensures turned { OnOk result (SomeTurns S.ways plan.now jobs.now
+        (run_by S.states run.old) (run_by S.states run.new)) }
+    ensures part { OnErr result (StopsInTurn S.ways plan.now jobs.now
+        (run_by S.states run.old) (run_by S.states run.new)) }
     ensures others { OnOk result (HaveEnded plan.now.cores run_seat.new.seat.knows.seen) }
     ensures seat { SaidNothing run_seat.old.seat run_seat.new.seat }
     ensures stored { run_seat.new.seat.knows.stored ≡ run_seat.old.seat.knows.stored }
@@ -144,9 +148,10 @@ fn run_through<R: Wait, S: CoreSides, G: Gate>(
     requires as_many { length run_seat.old.words.items ≡ length plan.now.ends.items }
     requires may { AreWords run_seat.old.words.items run_seat.old.seat.knows }
     requires once { run_seat.old.seat.knows.finished < length run_seat.old.seat.knows.cores }
-    ensures ran { IfOk result (λ part. CoreRan (ways S.puts S.takes S.front) (task plan.now jobs.now limit)
+    ensures ran { IfOk result (λ part. CoreRan S.ways (task plan.now jobs.now limit)
         (moment (run_by S.states run.old) (run_seat_of run_seat.old)) part (moment (run_by S.states run.new) (run_seat_of run_seat.new))) }
-    ensures part { OnErr result (StopsInTurn (ways S.puts S.takes S.front) plan.now jobs.now (run_by S.states run.old) (run_by S.states run.new)) }
+    ensures part { OnErr result (StopsInTurn S.ways plan.now jobs.now
+        (run_by S.states run.old) (run_by S.states run.new)) }
     ensures stopped { run_seat.new.seat.knows.stopped ≡ run_seat.old.seat.knows.stopped }
     ensures seats { run_seat.new.seat.knows.seats ≡ run_seat.old.seat.knows.seats }
 {
@@ -183,9 +188,10 @@ pub fn core_run<R: Wait, S: CoreSides, G: Gate>(
     requires may { AreWords run_seat.old.words.items run_seat.old.seat.knows }
     requires silent { (run_seat.old.seat.knows.finished < length run_seat.old.seat.knows.cores)
         × (run_seat.old.seat.knows.stopped < run_seat.old.seat.knows.seats) }
-    ensures ran { IfOk result (λ part. CoreRan (ways S.puts S.takes S.front) (task plan.now jobs.now limit)
+    ensures ran { IfOk result (λ part. CoreRan S.ways (task plan.now jobs.now limit)
         (moment (run_by S.states run.old) (run_seat_of run_seat.old)) part (moment (run_by S.states run.new) (run_seat_of run_seat.new))) }
-    ensures part { OnErr result (StopsInTurn (ways S.puts S.takes S.front) plan.now jobs.now (run_by S.states run.old) (run_by S.states run.new)) }
+    ensures part { OnErr result (StopsInTurn S.ways plan.now jobs.now
+        (run_by S.states run.old) (run_by S.states run.new)) }
     ensures told { OnErr result (run_seat.new.seat.knows.stopped ≡ run_seat.old.seat.knows.stopped + 1) }
 {
     match run_through(rt, run, plan, jobs, limit, run_seat, gate) {

@@ -1,7 +1,7 @@
 //! A core that runs.
 
 ghost use Rattle.std.specs.Prelude.{◌≡◌, ◌<◌, length, Some, IfSome, OnOk, OnErr};
-ghost use Rattle.fl_core_run.specs.Run.{ways, run_by};
+ghost use Rattle.fl_core_run.specs.Run.{run_by};
 ghost use Rattle.fl_core_run.specs.LogEntries.{IsSound, IsSoundAt};
 ghost use Rattle.fl_core_run.specs.EndProgress.{progress_place};
 ghost use Rattle.fl_core_run.specs.Inside.{OfPlace};
@@ -45,12 +45,14 @@ pub struct RunningCore<S> {
     pub idle: u32,
 }
 
-// What is known of its core at any time. It does nothing.
+// What is known of its core, and of its sides, at any time. It does nothing.
 pub(crate) fn law_sound<S: CoreSides>(run: &RunningCore<S>)
     ensures sound { IsSound run.now.core }
+    ensures whole { S.ways.whole (S.states run.now.rings) }
 {
     run.core.law_sound();
     law_never_shared(run.core.monitor().circuits());
+    run.rings.shows();
 }
 
 // What is known of the end at a place at any time. It does nothing.
@@ -90,8 +92,10 @@ impl<S: CoreSides> RunningCore<S> {
     /// # Errors
     /// Out of memory, only where one of these would be done. The turn wasn't finished then: what of it was done is told.
     pub fn turn(&mut self, plan: &TurnPlan, jobs: &[CoreJob]) -> Result<(), AllocError>
-        ensures turn { OnOk result (OneTurn (ways S.puts S.takes S.front) plan.now jobs.now (run_by S.states self.old) (run_by S.states self.new)) }
-        ensures part { OnErr result (PartOfTurn (ways S.puts S.takes S.front) plan.now jobs.now (run_by S.states self.old) (run_by S.states self.new)) }
+        ensures turn { OnOk result (OneTurn S.ways plan.now jobs.now
+            (run_by S.states self.old) (run_by S.states self.new)) }
+        ensures part { OnErr result (PartOfTurn S.ways plan.now jobs.now
+            (run_by S.states self.old) (run_by S.states self.new)) }
     {
         self.idle = self.idle.saturating_add(1);
         forward_all(self, &plan.links)?;

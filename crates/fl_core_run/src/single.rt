@@ -1,7 +1,7 @@
 //! What a turn is made of, one by one; and a core over other sides.
 
 ghost use Rattle.std.specs.Prelude.{◌≡◌, OnOk, OnErr};
-ghost use Rattle.fl_core_run.specs.Run.{ways, run_by, run_of, over, next_job, lent_link_side, lent_post};
+ghost use Rattle.fl_core_run.specs.Run.{run_by, with_rings, next_job, lent_link_side, lent_post};
 ghost use Rattle.fl_core_run.specs.Single.{TellsDue};
 ghost use Rattle.fl_core_run.specs.Steps.{Forwards, Says, Tells, Tries, WritesFrom, TakesTurn, Acknowledges};
 ghost use Rattle.fl_core_run.specs.Stops.{LeavesMessage, LeavesJob, LeavesTurn};
@@ -16,11 +16,11 @@ use fl_base::{EndId, LinkId};
 use fl_core::CoreJob;
 use std::alloc::AllocError;
 
-impl<S> RunningCore<Vec<S>> {
+impl<R> RunningCore<R> {
     /// The core over other sides, and those that it had.
-    pub fn with_rings<T>(self, rings: Vec<T>) -> (RunningCore<Vec<T>>, Vec<S>)
-        ensures over { run_of result.0 ≡ over rings.items (run_of self) }
-        ensures had { result.1.items ≡ self.rings.items }
+    pub fn with_rings<Q>(self, rings: Q) -> (RunningCore<Q>, R)
+        ensures over { result.0 ≡ with_rings rings self }
+        ensures had { result.1 ≡ self.rings }
     {
         let core = RunningCore {
             alloc: self.alloc,
@@ -66,9 +66,9 @@ impl<S: CoreSides> RunningCore<S> {
     /// # Errors
     /// Out of memory, only where a monitors' message would be heard and something said. It is left there.
     pub fn forward(&mut self, link: LinkId) -> Result<(), AllocError>
-        ensures forwards { OnOk result (Forwards (ways S.puts S.takes S.front) link
+        ensures forwards { OnOk result (Forwards S.ways link
             (run_by S.states self.old) (run_by S.states self.new)) }
-        ensures left { OnErr result (LeavesMessage (ways S.puts S.takes S.front) link
+        ensures left { OnErr result (LeavesMessage S.ways link
             (run_by S.states self.old) (run_by S.states self.new)) }
     {
         forward(self, link)
@@ -76,7 +76,7 @@ impl<S: CoreSides> RunningCore<S> {
 
     /// A monitor write for a link.
     pub fn say(&mut self, link: LinkId)
-        ensures says { Says (ways S.puts S.takes S.front) link (run_by S.states self.old) (run_by S.states self.new) }
+        ensures says { Says S.ways link (run_by S.states self.old) (run_by S.states self.new) }
     {
         say(self, link);
     }
@@ -86,7 +86,7 @@ impl<S: CoreSides> RunningCore<S> {
     /// # Errors
     /// Out of memory, only where the job would be done. Nothing has happened then.
     pub fn try_job(&mut self, jobs: &[CoreJob], name: EndId) -> Result<(), AllocError>
-        ensures tries { OnOk result (Tries (ways S.puts S.takes S.front) name
+        ensures tries { OnOk result (Tries S.ways name
             (next_job jobs.now (run_by S.states self.old) name) (run_by S.states self.old) (run_by S.states self.new)) }
         ensures kept { OnErr result (run_by S.states self.new ≡ run_by S.states self.old) }
         ensures left { OnErr result (LeavesJob jobs.now name (run_by S.states self.old) (run_by S.states self.new)) }
@@ -97,7 +97,7 @@ impl<S: CoreSides> RunningCore<S> {
 
     /// A write of an end.
     pub fn write(&mut self, name: EndId)
-        ensures writes { WritesFrom (ways S.puts S.takes S.front) name (lent_post (run_by S.states self.old) name)
+        ensures writes { WritesFrom S.ways name (lent_post (run_by S.states self.old) name)
             (run_by S.states self.old) (run_by S.states self.new) }
     {
         let place = self.core.place(name);
@@ -109,9 +109,9 @@ impl<S: CoreSides> RunningCore<S> {
     /// # Errors
     /// Out of memory, only where a call is or would be handled. The end that is due left the fragment that it saw, or its progress doesn't have the call.
     pub fn turn_of(&mut self, jobs: &[CoreJob], dispatcher: usize) -> Result<(), AllocError>
-        ensures turns { OnOk result (TakesTurn (ways S.puts S.takes S.front) jobs.now dispatcher
+        ensures turns { OnOk result (TakesTurn S.ways jobs.now dispatcher
             (run_by S.states self.old) (run_by S.states self.new)) }
-        ensures left { OnErr result (LeavesTurn (ways S.puts S.takes S.front) jobs.now dispatcher
+        ensures left { OnErr result (LeavesTurn S.ways jobs.now dispatcher
             (run_by S.states self.old) (run_by S.states self.new)) }
     {
         turn(self, jobs, dispatcher)
@@ -119,14 +119,14 @@ impl<S: CoreSides> RunningCore<S> {
 
     /// An acknowledgement for a link.
     pub fn tell(&mut self, link: LinkId)
-        ensures tells { Tells (ways S.puts S.takes S.front) link (run_by S.states self.old) (run_by S.states self.new) }
+        ensures tells { Tells S.ways link (run_by S.states self.old) (run_by S.states self.new) }
     {
         tell(self, link);
     }
 
     /// An acknowledgement of an end.
     pub fn ack(&mut self, name: EndId)
-        ensures acks { Acknowledges (ways S.puts S.takes S.front) name (run_by S.states self.old) (run_by S.states self.new) }
+        ensures acks { Acknowledges S.ways name (run_by S.states self.old) (run_by S.states self.new) }
     {
         ack(self, name);
     }

@@ -52,7 +52,7 @@ on_queue n s m Event h =
 on_core : {S : Type 0} (s m : TheRun S) → m ≡ record s { core = m.core } → AsMany s m
 on_core s m rest = (ap (λ (x : TheRun _). length x.rings) rest, ap (λ (x : TheRun _). length x.queues) rest)
 
-as_many : {S : Type 0} (w : SideRelations S) (log_entry : LogEntry) (s m : TheRun S) → Does w log_entry s m → AsMany s m
+pub as_many : {S : Type 0} (w : SideRelations S) (log_entry : LogEntry) (s m : TheRun S) → Does w log_entry s m → AsMany s m
 as_many w (looked n l answer) s m h = on_ring n s m _ h
 as_many w (passed n k frag c Moved) s m h =
     let one = on_ring k s h.0 _ h.1 in

@@ -33,7 +33,7 @@ use Rattle.fl_core_run.specs.LogEntries.{LogEntry, looked, passed, arrived, hear
 use Rattle.fl_core_run.specs.Steps.{HandsOut, ForwardsOver, Forwards, SaysOver, Says, TellsOver, Tells, may_ask, OpensIf, CallsAt, Tries, WritesFrom, Serves, AcksFrom, Acknowledges, reply_rule, RulesAt, awaits, due_turn, TurnsIf, TurnsAt, TakesTurn}
 use Rattle.fl_core_run.specs.Turn.{Swept, At, OneTurn, Turned}
 use Rattle.fl_core.specs.Jobs.{calls_of_job}
-use Rattle.fl_core_run_laws.specs.Logs.{LeadsTo, GoesOnOver, InPlace, Goes, handled_by, handles_in, handles, Logged}
+use Rattle.fl_core_run_laws.specs.Logs.{LeadsTo, GoesOnOver, InPlace, Goes, IsSeen, AreSeen, handled_by, handles_in, handles, Logged}
 
 -- ---- logs join
 
@@ -48,12 +48,33 @@ handles_join : (d : ℕ) (xs ys : List LogEntry) → handles d (xs ++ ys) ≡ ha
 handles_join d [] ys = omega arith
 handles_join d (x ∷ xs) ys = let rest = handles_join d xs ys in omega (arith, rest)
 
+-- what needs no look needs none behind any event
+is_seen : (before : Option LogEntry) (log_entry : LogEntry) → IsSeen None log_entry → IsSeen before log_entry
+is_seen before (passed n m frag c outcome) h = absurd (let none = h.1 in cc)
+is_seen before (arrived n l frag e answer) h = absurd (cc)
+is_seen before (heard n l frag answer) h = absurd (cc)
+is_seen before (looked n l answer) h = tt
+is_seen before (said n l answer) h = tt
+is_seen before (told n l answer) h = tt
+is_seen before (opened name request answer) h = tt
+is_seen before (called name c answer) h = tt
+is_seen before (ruled name msg reply answer) h = tt
+is_seen before (wrote name out answer) h = tt
+is_seen before (acked name n answer) h = tt
+is_seen before (turned d name from answer) h = tt
+
+seen_join : (before : Option LogEntry) (xs ys : List LogEntry) → AreSeen before xs → AreSeen None ys → AreSeen before (xs ++ ys)
+seen_join before [] [] a b = tt
+seen_join before [] (y ∷ ys) a b = (is_seen before y b.0, b.1)
+seen_join before (x ∷ xs) ys a b = (a.0, seen_join (Some x) xs ys a.1 b)
+
 pub logged_then : {S : Type 0} (w : SideRelations S) (jobs : List CoreJob) (f g h : ℕ → ℕ) (s m t : TheRun S) → ((d : ℕ) → f d + g d ≤ h d)
     → Logged w jobs f s m → Logged w jobs g m t → Logged w jobs h s t
 logged_then w jobs f g h s m t sum a b = record {
   log = a.log ++ b.log;
   goes = goes_join w jobs a.log b.log s m t a.goes b.goes;
   few = λ d. let one = a.few d in let two = b.few d in let both = handles_join d a.log b.log in let all = sum d in omega (arith, one, two, both, all);
+  seen = seen_join None a.log b.log a.seen b.seen;
 }
 
 -- with no calls handled
@@ -64,11 +85,12 @@ plain_then : {S : Type 0} (w : SideRelations S) (jobs : List CoreJob) (s m t : T
 plain_then w jobs s m t a b = logged_then w jobs none none none s m t (λ d. omega arith) a b
 
 nothing : {S : Type 0} (w : SideRelations S) (jobs : List CoreJob) (s t : TheRun S) → t ≡ s → Plain w jobs s t
-nothing w jobs s t same = record { log = []; goes = same; few = λ d. omega arith }
+nothing w jobs s t same = record { log = []; goes = same; few = λ d. omega arith; seen = tt }
 
-one_by : {S : Type 0} (w : SideRelations S) (jobs : List CoreJob) (log_entry : LogEntry) (s t : TheRun S) → ((d : ℕ) → handles_in d log_entry ≡ 0) → InPlace jobs s log_entry → Happens w log_entry s t → Plain w jobs s t
-one_by w jobs log_entry s t nobody by h =
-    record { log = log_entry ∷ []; goes = (t, h, by, refl); few = λ d. let zero_of = nobody d in omega (arith, zero_of) }
+one_by : {S : Type 0} (w : SideRelations S) (jobs : List CoreJob) (log_entry : LogEntry) (s t : TheRun S) → ((d : ℕ) → handles_in d log_entry ≡ 0) → IsSeen None log_entry
+    → InPlace jobs s log_entry → Happens w log_entry s t → Plain w jobs s t
+one_by w jobs log_entry s t nobody seen by h =
+    record { log = log_entry ∷ []; goes = (t, h, by, refl); few = λ d. let zero_of = nobody d in omega (arith, zero_of); seen = (seen, tt) }
 
 -- ---- for each link
 
@@ -115,37 +137,59 @@ foreseen w n l (Ok (ahead.Arrival frag e)) s m link_side h =
 foreseen w n l (Err fault) s m link_side h = tt
 
 module _ {S : Type 0} (w : SideRelations S) (jobs : List CoreJob) where
-  one : (log_entry : LogEntry) (s t : TheRun S) → ((d : ℕ) → handles_in d log_entry ≡ 0) → InPlace jobs s log_entry → Happens w log_entry s t → Plain w jobs s t
-  one log_entry s t nobody by h = one_by w jobs log_entry s t nobody by h
+  one : (log_entry : LogEntry) (s t : TheRun S) → ((d : ℕ) → handles_in d log_entry ≡ 0) → IsSeen None log_entry → InPlace jobs s log_entry → Happens w log_entry s t
+      → Plain w jobs s t
+  one log_entry s t nobody seen by h = one_by w jobs log_entry s t nobody seen by h
 
-  hands_out : (n : ℕ) (l : LinkId) (found : Result LinkFront LinkReceiveFault) (s t : TheRun S) → Foreseen n l found s → HandsOut w n l found s t → Plain w jobs s t
-  hands_out n l (Ok ahead.Nothing) s t seen h = nothing w jobs s t h
-  hands_out n l (Ok ahead.Acknowledged) s t seen h = nothing w jobs s t h
-  hands_out n l (Ok (ahead.Message frag)) s t seen h = one (heard n l frag h.0) s t (λ d. refl) seen h.1
-  hands_out n l (Ok (ahead.Onward frag to c)) s t seen (inl h) = one (passed n to frag c h.0) s t (λ d. refl) seen h.1
-  hands_out n l (Ok (ahead.Onward frag to c)) s t seen (inr h) = nothing w jobs s t h.1
-  hands_out n l (Ok (ahead.Arrival frag e)) s t seen h = one (arrived n l frag e h.0) s t (λ d. refl) seen h.1
-  hands_out n l (Err fault) s t seen h = nothing w jobs s t h
+  -- what comes directly behind this event, with no calls handled
+  record Behind (before : LogEntry) (s t : TheRun S) : Type 0 where
+    log : List LogEntry
+    goes : Goes w jobs s log t
+    few : (d : ℕ) → handles d log ≡ 0
+    seen : AreSeen (Some before) log
+
+  nothing_behind : (before : LogEntry) (s t : TheRun S) → t ≡ s → Behind before s t
+  nothing_behind before s t h = record { log = []; goes = h; few = λ d. refl; seen = tt }
+
+  one_behind : (before log_entry : LogEntry) (s t : TheRun S) → ((d : ℕ) → handles d (log_entry ∷ []) ≡ 0) → IsSeen (Some before) log_entry → InPlace jobs s log_entry
+      → Happens w log_entry s t → Behind before s t
+  one_behind before log_entry s t nobody seen by h = record { log = log_entry ∷ []; goes = (t, h, by, refl); few = nobody; seen = (seen, tt) }
+
+  hands_out : (n : ℕ) (l : LinkId) (found : Result LinkFront LinkReceiveFault) (s t : TheRun S) → Foreseen n l found s → HandsOut w n l found s t
+      → Behind (looked n l found) s t
+  hands_out n l (Ok ahead.Nothing) s t by h = nothing_behind _ s t h
+  hands_out n l (Ok ahead.Acknowledged) s t by h = nothing_behind _ s t h
+  hands_out n l (Ok (ahead.Message frag)) s t by h = one_behind _ (heard n l frag h.0) s t (λ d. refl) refl by h.1
+  hands_out n l (Ok (ahead.Onward frag to c)) s t by (inl h) = one_behind _ (passed n to frag c h.0) s t (λ d. refl) (l, refl) by h.1
+  hands_out n l (Ok (ahead.Onward frag to c)) s t by (inr h) = nothing_behind _ s t h.1
+  hands_out n l (Ok (ahead.Arrival frag e)) s t by h = one_behind _ (arrived n l frag e h.0) s t (λ d. refl) refl by h.1
+  hands_out n l (Err fault) s t by h = nothing_behind _ s t h
 
   forwards_over : (l : LinkId) (o : Option ℕ) (s t : TheRun S) → lent_link_side s l ≡ o → ForwardsOver w l o s t → Plain w jobs s t
   forwards_over l None s t link_side h = nothing w jobs s t h
   forwards_over l (Some n) s t link_side h =
       let seen : Foreseen n l h.0 h.1 = subst (λ (x : TheRun S). Foreseen n l h.0 x) (sym h.2.2) (foreseen w n l h.0 s h.2.0 link_side h.2.1) in
-      plain_then w jobs s h.1 t (one (looked n l h.0) s h.1 (λ d. refl) link_side h.2) (hands_out n l h.0 h.1 t seen h.3)
+      let behind = hands_out n l h.0 h.1 t seen h.3 in
+      record {
+        log = looked n l h.0 ∷ behind.log;
+        goes = (h.1, h.2, link_side, behind.goes);
+        few = λ d. let none_of = behind.few d in omega (arith, none_of);
+        seen = (tt, behind.seen);
+      }
 
   forwards : (l : LinkId) (s t : TheRun S) → Forwards w l s t → Plain w jobs s t
   forwards l s t h = forwards_over l (lent_link_side s l) s t refl h
 
   says_over : (l : LinkId) (o : Option ℕ) (s t : TheRun S) → lent_link_side s l ≡ o → SaysOver w l o s t → Plain w jobs s t
   says_over l None s t link_side h = nothing w jobs s t h
-  says_over l (Some n) s t link_side h = one (said n l h.0) s t (λ d. refl) link_side h.1
+  says_over l (Some n) s t link_side h = one (said n l h.0) s t (λ d. refl) tt link_side h.1
 
   says : (l : LinkId) (s t : TheRun S) → Says w l s t → Plain w jobs s t
   says l s t h = says_over l (lent_link_side s l) s t refl h
 
   tells_over : (l : LinkId) (o : Option ℕ) (s t : TheRun S) → lent_link_side s l ≡ o → TellsOver w l o s t → Plain w jobs s t
   tells_over l None s t link_side h = nothing w jobs s t h
-  tells_over l (Some n) s t link_side h = one (told n l h.0) s t (λ d. refl) link_side h.1
+  tells_over l (Some n) s t link_side h = one (told n l h.0) s t (λ d. refl) tt link_side h.1
 
   tells : (l : LinkId) (s t : TheRun S) → Tells w l s t → Plain w jobs s t
   tells l s t h = tells_over l (lent_link_side s l) s t refl h
@@ -154,16 +198,16 @@ module _ {S : Type 0} (w : SideRelations S) (jobs : List CoreJob) where
 
   opens : (b : Bool) (name : EndId) (request : OpenRequest) (s t : TheRun S) → next_job jobs s name ≡ Some (job.Open request) → may_ask s request ≡ b → OpensIf w b name request s t → Plain w jobs s t
   opens false name request s t next may h = nothing w jobs s t h
-  opens true name request s t next may h = one (opened name request h.0) s t (λ d. refl) (next, may) h.1
+  opens true name request s t next may h = one (opened name request h.0) s t (λ d. refl) tt (next, may) h.1
 
   calls : (name : EndId) (e : EndId) (call : AnyCall) (o : Option ℕ) (s t : TheRun S) → next_job jobs s name ≡ Some (job.Call e call) → CallsAt w name call o s t → Plain w jobs s t
   calls name e call None s t next h = nothing w jobs s t h
-  calls name e call (Some place) s t next h = one (called name (call_of call) h.0) s t (λ d. refl) (ap calls_of_job next) h.1
+  calls name e call (Some place) s t next h = one (called name (call_of call) h.0) s t (λ d. refl) tt (ap calls_of_job next) h.1
 
   sets_rule : (name : EndId) (e : EndId) (msg reply : MsgNo) (o : Option ℕ) (s t : TheRun S) → next_job jobs s name ≡ Some (job.Reply e msg reply) → RulesAt w (reply_rule name msg reply) o s t
       → Plain w jobs s t
   sets_rule name e msg reply None s t next h = nothing w jobs s t h
-  sets_rule name e msg reply (Some place) s t next h = one (ruled name msg reply h.0) s t (λ d. refl) (e, next) h.1
+  sets_rule name e msg reply (Some place) s t next h = one (ruled name msg reply h.0) s t (λ d. refl) tt (e, next) h.1
 
   tries : (name : EndId) (o : Option CoreJob) (s t : TheRun S) → next_job jobs s name ≡ o → Tries w name o s t → Plain w jobs s t
   tries name None s t next h = nothing w jobs s t h
@@ -173,7 +217,7 @@ module _ {S : Type 0} (w : SideRelations S) (jobs : List CoreJob) where
 
   writes : (name : EndId) (o : Option LentPutEnd) (s t : TheRun S) → lent_post s name ≡ o → WritesFrom w name o s t → Plain w jobs s t
   writes name None s t post h = nothing w jobs s t h
-  writes name (Some p) s t post h = one (wrote name p.outlet h.0) s t (λ d. refl) (p, post, refl) h.1
+  writes name (Some p) s t post h = one (wrote name p.outlet h.0) s t (λ d. refl) tt (p, post, refl) h.1
 
   serves : (name : EndId) (s t : TheRun S) → Serves w jobs name s t → Plain w jobs s t
   serves name s t h =
@@ -181,7 +225,7 @@ module _ {S : Type 0} (w : SideRelations S) (jobs : List CoreJob) where
 
   acks_from : (name : EndId) (o : Option LentRingEnd) (s t : TheRun S) → lent_ring_end s name ≡ o → AcksFrom w name o s t → Plain w jobs s t
   acks_from name None s t ring_end h = nothing w jobs s t h
-  acks_from name (Some b) s t ring_end h = one (acked name b.side h.0) s t (λ d. refl) (b, ring_end, refl) h.1
+  acks_from name (Some b) s t ring_end h = one (acked name b.side h.0) s t (λ d. refl) tt (b, ring_end, refl) h.1
 
   acks : (name : EndId) (s t : TheRun S) → Acknowledges w name s t → Plain w jobs s t
   acks name s t h = acks_from name (lent_ring_end s name) s t refl h
@@ -207,14 +251,14 @@ module _ {S : Type 0} (w : SideRelations S) (jobs : List CoreJob) where
   at_most e d answer false = omega arith
 
   weaker : (f g : ℕ → ℕ) (s t : TheRun S) → ((d : ℕ) → f d ≤ g d) → Logged w jobs f s t → Logged w jobs g s t
-  weaker f g s t more h = record { log = h.log; goes = h.goes; few = λ d. let one_of = h.few d in let all = more d in omega (arith, one_of, all) }
+  weaker f g s t more h = record { log = h.log; goes = h.goes; few = λ d. let one_of = h.few d in let all = more d in omega (arith, one_of, all); seen = h.seen }
 
   least : (b : Bool) → 0 ≤ (if b then 1 else 0)
   least true = omega arith
   least false = omega arith
 
   takes_none : (e : ℕ) (s t : TheRun S) → t ≡ s → Logged w jobs (λ d. if e == d then 1 else 0) s t
-  takes_none e s t h = record { log = []; goes = h; few = λ d. least (e == d) }
+  takes_none e s t h = record { log = []; goes = h; few = λ d. least (e == d); seen = tt }
 
   turns_if : (b : Bool) (e : ℕ) (name : EndId) (due : LentTakeEnd) (s t : TheRun S) → lent_due s e ≡ Some due → place_of s.core name ≡ Some due.end → awaits jobs s name ≡ b
       → TurnsIf w b (due_turn e name due) s t → Logged w jobs (λ d. if e == d then 1 else 0) s t
@@ -223,6 +267,7 @@ module _ {S : Type 0} (w : SideRelations S) (jobs : List CoreJob) where
     log = turned e name due.inlet h.0 ∷ [];
     goes = (t, h.1, (due, is, place, refl, waits), refl);
     few = λ d. let most = at_most e d h.0 (e == d) in omega (arith, most);
+    seen = (tt, tt);
   }
 
   takes_turn : (e : ℕ) (o : Option LentTakeEnd) (s t : TheRun S) → lent_due s e ≡ o → TurnsAt w jobs e o s t → Logged w jobs (λ d. if e == d then 1 else 0) s t
@@ -241,7 +286,7 @@ module _ {S : Type 0} (w : SideRelations S) (jobs : List CoreJob) where
   below k d = below_by k d (nat_lt d k) (k == d) (nat_lt d (suc k)) refl refl refl
 
   turns : (k : ℕ) (s t : TheRun S) → Swept (TakesTurn w jobs) k s t → Logged w jobs (λ d. if nat_lt d k then 1 else 0) s t
-  turns zero s t h = record { log = []; goes = h; few = λ d. least (nat_lt d 0) }
+  turns zero s t h = record { log = []; goes = h; few = λ d. least (nat_lt d 0); seen = tt }
   turns (suc k) s t h =
       logged_then w jobs (λ d. if nat_lt d k then 1 else 0) (λ d. if k == d then 1 else 0) (λ d. if nat_lt d (suc k) then 1 else 0) s h.0 t (below k)
       (turns k s h.0 h.1) (takes_turn k (lent_due h.0 k) h.0 t refl h.2)

@@ -1,5 +1,5 @@
 -- A core's log: what happened there, event by event. Laws.
-use Rattle.std.specs.Prelude.{ℕ, ◌≡◌, ◌≢◌, ◌+◌, ◌≤◌, ◌==◌, if◌then◌else◌, true, false, List, [], ◌∷◌, ◌++◌, slice_get, Option, Some, None, IsSome}
+use Rattle.std.specs.Prelude.{ℕ, ◌≡◌, ◌≢◌, ◌+◌, ◌≤◌, ◌==◌, if◌then◌else◌, true, false, List, [], ◌∷◌, ◌++◌, slice_get, Option, Some, None, IsSome, Ok}
 use Rattle.fl_base.specs.declared.fragment.Frag.{Frag}
 use Rattle.fl_base.specs.declared.identity.EndId.{EndId}
 use Rattle.fl_base.specs.declared.identity.LinkId.{LinkId}
@@ -15,6 +15,7 @@ use Rattle.fl_hop.specs.declared.entry.HopTarget.TheVariants.{Link, End}
 use Rattle.fl_hop.specs.Forward.{IsOther}
 use Rattle.fl_hop.specs.Later.{way_at}
 use Rattle.fl_hop.specs.Stretch.{same_end}
+use Rattle.fl_core.specs.declared.answer.LinkFront.TheVariants.{Message, Onward, Arrival}
 use Rattle.fl_core.specs.View.{place_of, side_of_link}
 use Rattle.fl_core.specs.declared.core_job.CoreJob.{CoreJob}
 use Rattle.fl_core.specs.declared.core_job.CoreJob.TheVariants as job
@@ -67,6 +68,18 @@ abbrev pub Goes : {S : Type 0} → SideRelations S → List CoreJob → TheRun S
 Goes w jobs s [] t = t ≡ s
 Goes {S} w jobs s (log_entry ∷ log) t = (m : TheRun S) × Happens w log_entry s m × InPlace jobs s log_entry × Goes w jobs m log t
 
+-- where it deals with what stands first on a link, the event directly before it is the look that found that
+abbrev pub IsSeen : Option LogEntry → LogEntry → Type 0
+IsSeen before (passed n m frag c outcome) = (l : LinkId) × (before ≡ Some (looked n l (Ok (Onward frag m c))))
+IsSeen before (arrived n l frag e answer) = before ≡ Some (looked n l (Ok (Arrival frag e)))
+IsSeen before (heard n l frag answer) = before ≡ Some (looked n l (Ok (Message frag)))
+IsSeen before log_entry = Unit {0}
+
+-- so it is of all events of a log, the first of which comes behind this one, or is its core's first
+abbrev pub AreSeen : Option LogEntry → List LogEntry → Type 0
+AreSeen before [] = Unit {0}
+AreSeen before (log_entry ∷ log) = IsSeen before log_entry × AreSeen (Some log_entry) log
+
 -- how many calls the dispatcher of a place handled by one event, and in a log
 abbrev pub handled_by : ℕ → TurnAnswer → ℕ
 handled_by one (Handle call) = one
@@ -85,8 +98,10 @@ pub record Logged {S : Type 0} (w : SideRelations S) (jobs : List CoreJob) (most
   pub log : List LogEntry
   pub goes : Goes w jobs s log t
   pub few : (d : ℕ) → handles d log ≤ most d
+  pub seen : AreSeen None log
 
--- all that changes a core in its turns is in a log, and no dispatcher handles more calls than turns were taken
+-- all that changes a core in its turns is in a log, each look directly before what is made of it, and no dispatcher handles more calls than turns were
+-- taken
 abbrev pub TurnsAreLogged : {S : Type 0} → SideRelations S → Type 0
 TurnsAreLogged {S} w = (plan : TurnPlan) (jobs : List CoreJob) (k : ℕ) (s t : TheRun S) → Turned w plan jobs k s t → Logged w jobs (λ d. k) s t
 

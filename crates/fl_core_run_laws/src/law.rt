@@ -12,8 +12,9 @@ ghost use Rattle.fl_core_run_laws.specs.Agree.{EndsAgree, CarriedOffLinks};
 use fl_endpoint::{law_handles_in_order, law_on_another_circuit};
 use fl_link::{PutSide, TakeSide, law_queue_conserves};
 
-/// Whatever changes a core in its turns is an event of its log; and no dispatcher handles more calls than the core took
-/// turns. What an end's progress has as handled are just the calls that its end handled, in order.
+/// Whatever changes a core in its turns is an event of its log, with each look directly before what is made of what it found;
+/// and no dispatcher handles more calls than the core took turns. What an end's progress has as handled are just the calls
+/// that its end handled, in order.
 pub fn law_turns_are_logged<S: PutSide + TakeSide>()
     ensures logged { TurnsAreLogged (ways S.puts S.takes S.front) }
     ensures handled { ProgressTellHandled (ways S.puts S.takes S.front) }

@@ -181,7 +181,7 @@ module _ (services : List Service) (jobs : List CoreJob) (n : ℕ) where
   one_counts : (log_entry : LogEntry) (a b : CutMoment) → Follows services jobs log_entry a b → (p : TheSide) → slice_get a.run.rings n ≡ Some p
       → SideCounts (one_if (nothing_at log_entry a b)) (one_if (full_at log_entry a b)) n p b
   one_counts log_entry a b h p at =
-      let (mid, does, notes, sound, soundly) = h.happens in
+      let (mid, does, notes, sound, soundly, whole) = h.happens in
       let aside = rings_aside mid b.run log_entry notes in
       let (q, later, (looks, led)) = logs_look shared_ways jobs a.run b.run (log_entry ∷ []) (b.run, h.happens, h.in_place, refl) n p at in
       let nothing = tested (finds_nothing n log_entry) a b p q at later in

@@ -39,7 +39,7 @@ is_called (Err (Wire f)) h = refl
 pub calls_are : StepsAgree → (n : ℕ) (name : EndId) (c : TheCall) (answer : Result (Unit {0}) EndFault) → lacks_to_call answer ≡ false
     → IsTheMachines (called name c answer) n (call name c) (call_answer answer)
 calls_are law n name c answer some jobs xs ys s show whole still h =
-    let (m, (e, found, on), notes, sound, acts) = h.happens in
+    let (m, (e, found, on), notes, sound, acts, known) = h.happens in
     let same = call_noted name answer m h.after notes in
     let x = begun jobs n (called name c answer) xs ys h in
     let it = core_over show.world jobs n (called name c answer) xs ys h show.joined whole m
@@ -64,7 +64,7 @@ is_ruled (Err fault) = refl
 pub rules_are : StepsAgree → (n : ℕ) (name : EndId) (msg answer : MsgNo) (r : Result (Unit {0}) EndFault)
     → IsTheMachines (ruled name msg answer r) n (reply name msg.0 answer.0) (rule_answer r)
 rules_are law n name msg answer r jobs xs ys s show whole still h =
-    let (m, (e, found, on), notes, sound, acts) = h.happens in
+    let (m, (e, found, on), notes, sound, acts, known) = h.happens in
     let x = begun jobs n (ruled name msg answer r) xs ys h in
     let it = core_over show.world jobs n (ruled name msg answer r) xs ys h show.joined whole m
     (ended_whole jobs n (ruled name msg answer r) xs ys h m notes.rest still)

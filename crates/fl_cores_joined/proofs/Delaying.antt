@@ -456,7 +456,7 @@ module _ (jobs : List CoreJob) (k : ℕ) (look : LogEntry) (xs ms : List JoinedC
           subst (HasSide ms (across_from m)) (sym is) (its_laters.has i m a number a_is);
     };
     after = refaced its_laters.others h.after;
-    happens = (refaced its_laters.others h.happens.0, looks_there, ap (refaced its_laters.others) h.happens.2, h.happens.3, tt);
+    happens = (refaced its_laters.others h.happens.0, looks_there, ap (refaced its_laters.others) h.happens.2, h.happens.3, tt, tt);
     in_place = in_place_faced its_laters.others h.before jobs (looked h.n h.l h.found) h.in_place;
     rest = ap (λ (r : TheRun TheSide). slice_set ms k (record h.old { run = r })) (sym (sides_same h.after));
   }

@@ -286,7 +286,7 @@ module _ (over : ℕ → Type 0) (others : List TheSide) where
   pub happens_faced : (log_entry : LogEntry) (s t : TheRun FacingSide) → ((i : ℕ) → GoesOver log_entry i → over i) → LikeRun s
       → Happens true_ways log_entry s t → Happens true_ways log_entry (there s) (there t)
   happens_faced log_entry s t goes like h =
-      (there h.0, (does_faced log_entry s h.0 goes like h.1).0, notes_lifted (faced_all others) log_entry h.0 t h.2, h.3, acts_lifted (faced_all others) log_entry s h.4)
+      (there h.0, (does_faced log_entry s h.0 goes like h.1).0, notes_lifted (faced_all others) log_entry h.0 t h.2, h.3, acts_lifted (faced_all others) log_entry s h.4, tt)
 
 -- ---- among other cores
 

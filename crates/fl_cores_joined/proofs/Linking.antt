@@ -140,7 +140,7 @@ module _ (law : StepsAgree) (n i : ℕ) (l : LinkId) (jobs : List CoreJob) (xs y
   pub says_so : (answer : MonitorWrite) (h : HappensAt jobs n (said i l answer) xs ys)
       → MachineDoes (monitor_write n (neighbour_on h.before.run.core l)) (write_answer answer) s ys
   says_so answer h =
-      let (m, on, same, sound, acts) = h.happens in
+      let (m, on, same, sound, acts, known) = h.happens in
       let noted = nothing_noted h.after m same in
       let x = begun jobs n (said i l answer) xs ys h in
       let it = ring_over w jobs n (said i l answer) xs ys h show.joined whole m
@@ -166,7 +166,7 @@ module _ (law : StepsAgree) (n i : ℕ) (l : LinkId) (jobs : List CoreJob) (xs y
   pub tells_so : (answer : AckAnswer) (h : HappensAt jobs n (told i l answer) xs ys)
       → MachineDoes (monitor_ack n (neighbour_on h.before.run.core l)) (ack_answer answer) s ys
   tells_so answer h =
-      let (m, on, same, sound, acts) = h.happens in
+      let (m, on, same, sound, acts, known) = h.happens in
       let noted = nothing_noted h.after m same in
       let x = begun jobs n (told i l answer) xs ys h in
       let it = ring_over w jobs n (told i l answer) xs ys h show.joined whole m

@@ -188,7 +188,7 @@ module _ (law : StepsAgree) (n i : ℕ) (l : LinkId) (jobs : List CoreJob) (xs y
       → ((at : LinkNumbers) (v : TheWorld) → ForwardsBy found n at v answer v)
       → MachineDoes (forward n (neighbour_on h.before.run.core l)) answer s ys
   over_link found answer h lifts follows =
-      let (m, on, same, sound, acts) = h.happens in
+      let (m, on, same, sound, acts, known) = h.happens in
       let noted = nothing_noted h.after m same in
       let x = begun jobs n (looked i l found) xs ys h in
       let it = ring_over w jobs n (looked i l found) xs ys h show.joined whole m

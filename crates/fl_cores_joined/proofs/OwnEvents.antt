@@ -263,6 +263,7 @@ module _ (jobs : List CoreJob) (n : ℕ) (log_entry : LogEntry) (xs : List Joine
       notes_lifted (face its.others) log_entry h.0 after h.2,
       h.3,
       acts_lifted (face its.others) log_entry x.run h.4,
+      tt,
     );
     in_place = in_place_lifted (face its.others) x.run (face_long its.others x.run.rings long) jobs log_entry place;
     rest = ap (λ (r : TheRun TheSide). slice_set xs n (record x { run = r })) (sym (alone_is after long_after));

@@ -317,15 +317,15 @@ module _ (law : StepsAgree) (n i : ℕ) (l : LinkId) (frag : Frag) (to : ℕ) (c
   pub passes_there : (outcome : ForwardOutcome) → HappensAt jobs n (passed i to frag c outcome) ms ys
       → MachineDoes (forward n (neighbour_on h.before.run.core l)) (moved_answer outcome) s ys
   passes_there Moved g =
-      let (last, (m, put, take), noted, sound, acts) = g.happens in
+      let (last, (m, put, take), noted, sound, acts, known) = g.happens in
       goes_on law frag to c looks Moved ys g put.before put.before_is m put.after (placed (bare (with_circuit c.0 frag))) put.event.0 put.event.1 put.rest refl
       last take noted (takes law frag to c looks Moved ys g put.before put.before_is m put.after (placed (bare (with_circuit c.0 frag))) put.event.0 put.event.1 put.rest refl
       last take).0
   passes_there Full g =
-      let (last, put, noted, sound, acts) = g.happens in
+      let (last, put, noted, sound, acts, known) = g.happens in
       stays law frag to c looks Full ys g put.before put.before_is last put.after no_room put.event.0 put.event.1 put.rest refl noted refl
   passes_there Spent g =
-      let (last, put, noted, sound, acts) = g.happens in
+      let (last, put, noted, sound, acts, known) = g.happens in
       stays law frag to c looks Spent ys g put.before put.before_is last put.after spent put.event.0 put.event.1 put.rest refl noted refl
 
 pub passes_are : StepsAgree → PassesJoin

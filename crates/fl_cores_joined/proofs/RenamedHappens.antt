@@ -341,7 +341,7 @@ module _ (r : Renaming) (links : ℕ → Bool) where
           beside = there;
           beside_is = record { own = own_there; across = acrosses };
           after = left;
-          happens = (d.run, d.event, note.noted, sound, acts);
+          happens = (d.run, d.event, note.noted, sound, acts, tt);
           in_place = in_place;
           rest = refl;
         };

@@ -63,7 +63,7 @@ is_acked (Err fault) = refl
 pub acks_are : StepsAgree → (n : ℕ) (name : EndId) (i : ℕ) (answer : Result AckAnswer BoardFault)
     → IsTheMachines (acked name i answer) n (acks_event name) (acked_answer answer)
 acks_are law n name i answer jobs xs ys s show whole still h =
-    let (m, (e, found, on), same, sound, acts) = h.happens in
+    let (m, (e, found, on), same, sound, acts, known) = h.happens in
     let (its, its_is, is) = h.in_place in
     let noted = nothing_noted h.after m same in
     let x = begun jobs n (acked name i answer) xs ys h in

@@ -152,17 +152,17 @@ module _ (law : StepsAgree) (d : ℕ) (name : EndId) (from : Inlet) (answer : Tu
 pub turns_are : StepsAgree → (n d : ℕ) (name : EndId) (from : Inlet) (answer : TurnAnswer)
     → IsTheMachines (turned d name from answer) n (turn (at n d)) (turn_answer name answer)
 turns_are law n d name (inlet.Side i) answer jobs xs ys s show whole still h =
-    let (m, (e, found, is_due, on), same, sound, acts) = h.happens in
+    let (m, (e, found, is_due, on), same, sound, acts, known) = h.happens in
     let (take, take_is, its, is, none) = h.in_place in
     over_side law d name (inlet.Side i) answer n jobs xs ys h s show.world show.joined show.shows whole still m (turn_noted name answer m h.after same) e found
     is_due acts i (takes_from h.beside d e take (inlet.Side i) is_due take_is is) on
 turns_are law n d name (inlet.Queue i) answer jobs xs ys s show whole still h =
-    let (m, (e, found, is_due, on), same, sound, acts) = h.happens in
+    let (m, (e, found, is_due, on), same, sound, acts, known) = h.happens in
     let (take, take_is, its, is, none) = h.in_place in
     over_queue law d name (inlet.Queue i) answer n jobs xs ys h s show.world show.joined show.shows whole still m (turn_noted name answer m h.after same) e found
     is_due acts i (takes_from h.beside d e take (inlet.Queue i) is_due take_is is) on
 turns_are law n d name inlet.Arrivals answer jobs xs ys s show whole still h =
-    let (m, (e, found, is_due, on), same, sound, acts) = h.happens in
+    let (m, (e, found, is_due, on), same, sound, acts, known) = h.happens in
     let (take, take_is, its, is, none) = h.in_place in
     over_arrivals law d name inlet.Arrivals answer n jobs xs ys h s show.world show.joined show.shows whole still m (turn_noted name answer m h.after same) e found
     is_due acts (takes_from h.beside d e take inlet.Arrivals is_due take_is is) on

@@ -97,12 +97,12 @@ module _ (law : StepsAgree) (name : EndId) (out : Outlet) (answer : Result Write
 pub writes_are : StepsAgree → (n : ℕ) (name : EndId) (out : Outlet) (answer : Result WriteAnswer EndFault)
     → IsTheMachines (wrote name out answer) n (write name) (write_answer answer)
 writes_are law n name (outlet.Side i) answer jobs xs ys s show whole still h =
-    let (m, (e, found, on), same, sound, acts) = h.happens in
+    let (m, (e, found, on), same, sound, acts, known) = h.happens in
     let (post, post_is, is) = h.in_place in
     over_side law name (outlet.Side i) answer n jobs xs ys h s show.world show.joined show.shows whole still m (nothing_noted h.after m same) e found i
     (puts_to h.beside name e post (outlet.Side i) found post_is is) on
 writes_are law n name (outlet.Queue i) answer jobs xs ys s show whole still h =
-    let (m, (e, found, on), same, sound, acts) = h.happens in
+    let (m, (e, found, on), same, sound, acts, known) = h.happens in
     let (post, post_is, is) = h.in_place in
     over_queue law name (outlet.Queue i) answer n jobs xs ys h s show.world show.joined show.shows whole still m (nothing_noted h.after m same) e found i
     (puts_to h.beside name e post (outlet.Queue i) found post_is is) on

@@ -1,6 +1,5 @@
 -- Actions of one side that are an event, and the steps that they are.
-use Rattle.std.proofs.Common.{ℕ, ◌≡◌, ◌≢◌, ◌⊎◌, inl, inr, ⊎_elim, ◌==◌, if◌then◌else◌, eq-eqb, ne_eqb, Bool, true, false, List, [], ◌∷◌, ◌++◌, Option, Some, None, ap, subst, ◌∙◌, sym, refl, append_assoc, append-nil}
-use Rattle.std.proofs.lemmas.Bool.{false≢true}
+use Rattle.std.proofs.Common.{ℕ, ◌≡◌, ◌≢◌, ◌⊎◌, inl, inr, ⊎_elim, ◌==◌, eq-eqb, ne_eqb, Bool, true, false, List, [], ◌∷◌, ◌++◌, Option, Some, None, ap, subst, ◌∙◌, sym, refl}
 use Rattle.fl_base.specs.declared.fragment.Frag.{Frag}
 use Rattle.fl_history_rings.specs.declared.board.Action.{Action}
 use Rattle.fl_history_rings.specs.declared.board.Action.TheVariants.{Put, Found, Missed, Saw, Took}
@@ -8,7 +7,7 @@ use Rattle.fl_history_rings.specs.declared.board.Entry.{Entry}
 use Rattle.fl_history_rings.specs.Rings.{entry}
 use Rattle.fl_history_rings.specs.Rule.{gather, one_action, seen_from}
 use Rattle.fl_history_rings.proofs.Logs.{then_is, else_is}
-use Rattle.fl_history_events.specs.Events.{MayWait, AllMayWait, MayComeEarlier, known_after, stands_from, known_to_stand, FollowAll, IsEventAfter}
+use Rattle.fl_history_events.specs.Events.{MayWait, AllMayWait, MayComeEarlier, stands_from, known_to_stand, FollowAll, IsEventAfter}
 use Rattle.fl_history_events.proofs.Cutting.{gather_join}
 use Rattle.fl_history_events.proofs.Moments.{stands_join}
 

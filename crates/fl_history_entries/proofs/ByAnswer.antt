@@ -1,15 +1,14 @@
 -- What an entry's own relation says of the side that is lent: its core noted simple actions by it.
-use Rattle.std.proofs.Common.{ℕ, ◌≡◌, ◌⊎◌, inl, inr, ⊎_elim, List, [], ◌∷◌, ◌++◌, slice_get, Option, Some, None, Result, Ok, Err, ap, subst, ◌∙◌, sym, refl}
-use Rattle.std.specs.declared.alloc.AllocError.{AllocError}
+use Rattle.std.proofs.Common.{ℕ, ◌≡◌, ⊎_elim, Result, Ok, Err, subst, sym}
 use Rattle.fl_base.specs.declared.fragment.Frag.{Frag}
-use Rattle.fl_link.specs.Looks.{Look, placed, no_room, spent, saw, saw_ack, found, found_ack, missed, told, kept}
+use Rattle.fl_link.specs.Looks.{Look, no_room, spent, saw, saw_ack, found, found_ack, missed, told, kept}
 use Rattle.fl_lists.specs.declared.place.Place.{Place}
 use Rattle.fl_lists.specs.declared.place.Place.TheVariants as place
 use Rattle.fl_waitset.specs.declared.waitset.Pick.{Pick}
 use Rattle.fl_waitset.specs.declared.waitset.Pick.TheVariants as pick
 use Rattle.fl_hop.specs.declared.forward.ForwardOutcome.{ForwardOutcome}
 use Rattle.fl_hop.specs.declared.forward.ForwardOutcome.TheVariants as outcome
-use Rattle.fl_hop.specs.Forward.{Leaves, BeforeAfter}
+use Rattle.fl_hop.specs.Forward.{Leaves}
 use Rattle.fl_endpoint.specs.declared.fault.EndFault.{EndFault}
 use Rattle.fl_endpoint.specs.declared.fault.EndFault.TheVariants as fault
 use Rattle.fl_endpoint.specs.declared.answer.WriteAnswer.{WriteAnswer}
@@ -36,12 +35,12 @@ use Rattle.fl_core.specs.declared.fault.LinkReceiveFault.{LinkReceiveFault}
 use Rattle.fl_core.specs.declared.fault.LinkReceiveFault.TheVariants as link
 use Rattle.fl_core.specs.Ends.{AtSide, WritesAt}
 use Rattle.fl_core.specs.BoardEvents.{Acks}
-use Rattle.fl_core.specs.BoardTurns.{WaitsIn, EndMoment, TakesOne, Gives, ListsAndSide, lent, Examines, IsQuiet, LooksAt}
+use Rattle.fl_core.specs.BoardTurns.{WaitsIn, EndMoment, TakesOne, Gives, ListsAndSide, lent, Examines, LooksAt}
 use Rattle.fl_core.specs.Links.{MonitorWrites, LooksAhead, Inbound, ArrivesAt, Acknowledges}
 use Rattle.fl_core.specs.Hearing.{TakesHeard}
 use Rattle.fl_history_sides.specs.States.{TheHistorySide}
 use Rattle.fl_history_sides.specs.Noted.{HistoryPuts, HistoryTakes, front_of}
-use Rattle.fl_history_entries.proofs.Noting.{GrewSimply, GrewWaiting, noted, noted_waiting, still, waiting_simply, waiting_then}
+use Rattle.fl_history_entries.proofs.Noting.{GrewSimply, noted, noted_waiting, still, waiting_simply, waiting_then}
 
 -- one step, and one that sees or takes a fragment
 put_once : (p : TheHistorySide) (look : Look) (q : TheHistorySide) → HistoryPuts p look q → GrewSimply p q

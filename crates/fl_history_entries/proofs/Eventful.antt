@@ -1,24 +1,22 @@
 -- What a core did by one side is an event.
-use Rattle.std.proofs.Common.{ℕ, zero, suc, ◌≡◌, ◌≢◌, ◌⊎◌, inl, inr, ⊎_elim, ◌==◌, if◌then◌else◌, eq-eqb, ne_eqb, Bool, true, false, List, [], ◌∷◌, ◌++◌, length, map, set, slice_get, slice_set, Option, Some, None, ap, subst, ◌∙◌, sym, refl, append_assoc, append-nil}
+use Rattle.std.proofs.Common.{ℕ, zero, suc, ◌≡◌, ◌≢◌, ◌==◌, if◌then◌else◌, eq-eqb, ne_eqb, List, [], ◌∷◌, ◌++◌, set, slice_get, slice_set, Some, ap, subst, ◌∙◌, sym, refl}
 use Rattle.std.specs.List.{AllByRecursion}
 use mathlib.Core.Logic.{dite}
 use native.Mathlib.Decide.{ℕ_discrete}
-use Rattle.fl_base.specs.declared.fragment.Frag.{Frag}
 use Rattle.fl_history_rings.specs.declared.board.Action.{Action}
 use Rattle.fl_history_rings.specs.declared.board.Entry.{Entry}
 use Rattle.fl_history_rings.specs.Rings.{entry}
 use Rattle.fl_history_rings.specs.Rule.{gather, one_action}
 use Rattle.fl_history_rings.specs.Cores.{TheCore}
 use Rattle.fl_history_rings.proofs.Logs.{then_is, else_is}
-use Rattle.fl_history_sides.specs.States.{TheHistorySide, numbers_of, shown_of}
+use Rattle.fl_history_sides.specs.States.{TheHistorySide, numbers_of}
 use Rattle.fl_history_sides.specs.Core.{IsStepBy, AreSidesOf}
 use Rattle.fl_history_sides.proofs.Prefixes.{Numbered, numbered}
-use Rattle.fl_history_events.specs.Events.{MayWait, AllMayWait, MayComeEarlier, known_after, stands_from, known_to_stand, FollowAll, IsEventAfter}
-use Rattle.fl_history_events.proofs.Cutting.{cons_none, cons_same, snoc_none, gather_join}
-use Rattle.fl_history_events.proofs.Moments.{stands_join}
+use Rattle.fl_history_events.specs.Events.{known_to_stand}
+use Rattle.fl_history_events.proofs.Cutting.{cons_none}
 use Rattle.fl_history_entries.specs.Entries.{DidAnEvent}
-use Rattle.fl_history_entries.proofs.Acting.{entries, piece_here, piece_else, AllWait, FollowActs, acts_are_event}
-use Rattle.fl_history_entries.proofs.Growing.{all_at, Grew, grew_not, GrewAt, DidMore, did_more}
+use Rattle.fl_history_entries.proofs.Acting.{entries, piece_here, piece_else, FollowActs, acts_are_event}
+use Rattle.fl_history_entries.proofs.Growing.{Grew, grew_not, GrewAt, DidMore, did_more}
 
 -- ---- places of a list
 

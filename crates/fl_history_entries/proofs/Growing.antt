@@ -1,5 +1,5 @@
 -- What a core did more, by what its sides tell.
-use Rattle.std.proofs.Common.{ℕ, zero, suc, ◌≡◌, ◌≢◌, ◌⊎◌, inl, inr, ⊎_elim, ◌==◌, ◌||◌, if◌then◌else◌, eq-eqb, ne_eqb, Bool, true, false, List, [], ◌∷◌, ◌++◌, length, map, slice_get, Some, ap, subst, ◌∙◌, sym, refl, append_assoc, append-nil}
+use Rattle.std.proofs.Common.{ℕ, zero, suc, ◌≡◌, ⊎_elim, ◌||◌, eq-eqb, ne_eqb, Bool, true, false, List, [], ◌∷◌, ◌++◌, slice_get, Some, ap, subst, ◌∙◌, sym, refl, append_assoc, append-nil}
 use Rattle.std.proofs.lemmas.Bool.{false≢true}
 use Rattle.std.specs.List.{AllByRecursion}
 use mathlib.Core.Logic.{dite}
@@ -9,14 +9,13 @@ use Rattle.fl_history_rings.specs.declared.board.Entry.{Entry}
 use Rattle.fl_history_rings.specs.Rings.{entry}
 use Rattle.fl_history_rings.specs.Rule.{gather, one_action}
 use Rattle.fl_history_rings.specs.Cores.{TheCore, noting}
-use Rattle.fl_history_rings.proofs.Logs.{then_is, else_is}
-use Rattle.fl_history_sides.specs.States.{TheHistorySide, acts_in, until_last, with_steps, core_until, shown_of, numbers_of}
+use Rattle.fl_history_sides.specs.States.{TheHistorySide, acts_in, until_last, with_steps, shown_of, numbers_of}
 use Rattle.fl_history_sides.specs.Noted.{noting_all, GoesOn}
 use Rattle.fl_history_sides.specs.Core.{IsStepBy, AreSidesOf}
 use Rattle.fl_history_sides.proofs.Until.{until_here, since_of}
 use Rattle.fl_history_sides.proofs.Prefixes.{Numbered, numbered}
-use Rattle.fl_history_events.proofs.Cutting.{cons_none, cons_same, last_or_none, gather_join}
-use Rattle.fl_history_entries.proofs.Acting.{entries, piece_here, piece_else, gather_entries}
+use Rattle.fl_history_events.proofs.Cutting.{cons_same, last_or_none, gather_join}
+use Rattle.fl_history_entries.proofs.Acting.{entries, piece_else, gather_entries}
 
 -- ---- lists
 

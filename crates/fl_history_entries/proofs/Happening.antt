@@ -1,11 +1,11 @@
 -- Each event of a core's log is one of its steps.
-use Rattle.std.proofs.Common.{ℕ, zero, suc, ◌≡◌, ◌≢◌, ◌⊎◌, inl, inr, ⊎_elim, Bool, true, List, [], ◌∷◌, ◌++◌, map, slice_get, slice_set, set-set, Option, Some, None, Result, Ok, Err, ap, subst, ◌∙◌, sym, refl, append-nil}
+use Rattle.std.proofs.Common.{ℕ, zero, suc, ◌≡◌, ◌≢◌, ◌⊎◌, inl, inr, ⊎_elim, Bool, true, List, [], ◌∷◌, ◌++◌, map, slice_get, slice_set, set-set, Option, Some, None, Result, Ok, Err, ap, subst, ◌∙◌, sym, refl}
 use Rattle.std.specs.List.{AllByRecursion}
 use mathlib.Core.Logic.{dite}
 use native.Mathlib.Decide.{ℕ_discrete}
 use Rattle.fl_base.specs.declared.fragment.Frag.{Frag}
 use Rattle.fl_base.specs.Given.{given}
-use Rattle.fl_link.specs.Looks.{Look, placed, no_room, spent, saw, found}
+use Rattle.fl_link.specs.Looks.{no_room, spent}
 use Rattle.fl_hop.specs.declared.forward.ForwardOutcome.TheVariants as outcome
 use Rattle.fl_core.specs.declared.kind.ChannelKind.{ChannelKind}
 use Rattle.fl_core.specs.declared.kind.ChannelKind.TheVariants.{Ring}
@@ -30,7 +30,7 @@ use Rattle.fl_core.specs.BoardTurns.{LooksAt, moment}
 use Rattle.fl_core.specs.Sound.{IsCore}
 use Rattle.fl_core.specs.View.{kind_of, inlet_by, inlet_of}
 use Rattle.fl_core_run.specs.Run.{TheRun}
-use Rattle.fl_core_run.specs.LogEntries.{LogEntry, looked, passed, arrived, heard, said, told, opened, called, ruled, wrote, acked, turned, OnRing, Does, Notes, NotesHeard, NotesOpened, NotesCalled, NotesTurned}
+use Rattle.fl_core_run.specs.LogEntries.{LogEntry, looked, passed, arrived, heard, said, told, opened, called, ruled, wrote, acked, turned, Does, Notes, NotesHeard, NotesOpened, NotesCalled, NotesTurned}
 use Rattle.fl_history_rings.specs.declared.board.Action.{Action}
 use Rattle.fl_history_rings.specs.declared.board.Action.TheVariants.{Put, Found, Took}
 use Rattle.fl_history_rings.specs.declared.board.Entry.{Entry}
@@ -41,7 +41,8 @@ use Rattle.fl_history_sides.specs.Core.{IsStepBy, AreSidesOf}
 use Rattle.fl_history_sides.proofs.Prefixes.{Numbered, numbered}
 use Rattle.fl_history_events.specs.Events.{known_to_stand}
 use Rattle.fl_history_events.proofs.Cutting.{cons_none}
-use Rattle.fl_history_entries.specs.Entries.{history_sides, DidAnEvent, MayComeNext}
+use Rattle.fl_history_sides.specs.Ways.{history_ways}
+use Rattle.fl_history_entries.specs.Entries.{DidAnEvent, MayComeNext}
 use Rattle.fl_history_entries.specs.Laws.{EntriesAreEvents}
 use Rattle.fl_history_entries.proofs.Acting.{piece_here, FollowActs, seen_known}
 use Rattle.fl_history_entries.proofs.Growing.{all_at, Grew, grew_not, grew_then, grew_on, GrewAt, DidMore, did_more}
@@ -208,15 +209,15 @@ ring_seat s e n seat sound at is =
     (ap (λ (l : List ChannelKind). slice_get l e) (sym sound.kinds) ∙ by_board) by_wires
     ∙ ring_wired w.0.wiring n w.2
 
-turned_over : (dispatcher : ℕ) (name : EndId) (n : ℕ) (answer : TurnAnswer) (s t : HistoryRun) → IsCore s.core → Does history_sides (turned dispatcher name (inlet.Side n) answer) s t
+turned_over : (dispatcher : ℕ) (name : EndId) (n : ℕ) (answer : TurnAnswer) (s t : HistoryRun) → IsCore s.core → Does history_ways (turned dispatcher name (inlet.Side n) answer) s t
     → MayComeNext (turned dispatcher name (inlet.Side n) answer) s → OneSide s t
 turned_over dispatcher name n answer s t sound (e, at, due_is, on) may =
     let turns = on.event.event in
     let kind : turns.seat.kind ≡ Ring = ring_seat s e n turns.seat sound turns.seat_is (may e at) in
     let first = moment turns.dispatcher.lists turns.seat.end on.before in
     let last = moment turns.lists turns.end on.after in
-    let looks : LooksAt history_sides.takes turns.picked Ring first (Ok answer) last =
-    subst (λ (x : ChannelKind). LooksAt history_sides.takes turns.picked x first (Ok answer) last) kind turns.looks in
+    let looks : LooksAt history_ways.takes turns.picked Ring first (Ok answer) last =
+    subst (λ (x : ChannelKind). LooksAt history_ways.takes turns.picked x first (Ok answer) last) kind turns.looks in
     one_side n s t on.before on.after on.before_is (ap (λ (z : HistoryRun). z.rings) on.rest) (looks_at turns.picked first answer last looks)
 
 -- ---- each kind of entry
@@ -228,7 +229,7 @@ module _ (c d : TheCore) (s t : HistoryRun) (sound : IsCore s.core) (h : AreSide
   done : What s t → DidAnEvent c d
   done what = finished c d s t h k what
 
-  event_of : (log_entry : LogEntry) → Does history_sides log_entry s t → MayComeNext log_entry s → DidAnEvent c d
+  event_of : (log_entry : LogEntry) → Does history_ways log_entry s t → MayComeNext log_entry s → DidAnEvent c d
   event_of (looked n l answer) on may = done (inr (one_side n s t on.before on.after on.before_is (ap rings_of on.rest) (looks_ahead l.0 _ answer _ on.event)))
   event_of (passed n to frag circuit outcome.Moved) (mid, puts, takes) (p0, seen, at, peeked) =
       let put = puts.event.0.1 in

@@ -1,10 +1,10 @@
 -- What a side notes by its labels: actions that may all wait, and maybe one more.
-use Rattle.std.proofs.Common.{ℕ, ◌≡◌, ◌⊎◌, inl, inr, ⊎_elim, Bool, List, [], ◌∷◌, ◌++◌, ap, subst, ◌∙◌, sym, refl, append_assoc, append-nil}
+use Rattle.std.proofs.Common.{ℕ, ◌≡◌, ◌⊎◌, inl, inr, ⊎_elim, Bool, List, [], ◌∷◌, ◌++◌, subst, sym, refl}
 use Rattle.fl_base.specs.declared.fragment.Frag.{Frag}
 use Rattle.fl_link.specs.Looks.{Look, placed, no_room, spent, saw, saw_ack, found, found_ack, missed, told, kept}
 use Rattle.fl_ring.specs.Duo.{acknowledgement}
 use Rattle.fl_history_rings.specs.declared.board.Action.{Action}
-use Rattle.fl_history_rings.specs.declared.board.Action.TheVariants.{Put, Found, Missed, Saw, Took}
+use Rattle.fl_history_rings.specs.declared.board.Action.TheVariants.{Put, Found, Missed, Took}
 use Rattle.fl_history_sides.specs.States.{TheHistorySide}
 use Rattle.fl_history_sides.specs.Noted.{NotesFound, NotesFull, NotesPut, NotesSeen, NotesTaken, Notes, IsNoted}
 use Rattle.fl_history_entries.proofs.Acting.{AllWait, wait_join, FollowActs, all_wait_follow, one_follows}

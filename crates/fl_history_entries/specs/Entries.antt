@@ -4,17 +4,12 @@ use Rattle.fl_base.specs.declared.fragment.Frag.{Frag}
 use Rattle.fl_hop.specs.declared.forward.ForwardOutcome.TheVariants.{Moved}
 use Rattle.fl_core.specs.declared.wiring.Inlet.TheVariants as inlet
 use Rattle.fl_core.specs.View.{place_of, inlet_of}
-use Rattle.fl_core_run.specs.Run.{SideRelations, ways, TheRun}
+use Rattle.fl_core_run.specs.Run.{TheRun}
 use Rattle.fl_core_run.specs.LogEntries.{LogEntry, passed, turned}
 use Rattle.fl_history_rings.specs.declared.board.Entry.{Entry}
 use Rattle.fl_history_rings.specs.Cores.{TheCore}
 use Rattle.fl_history_sides.specs.States.{TheHistorySide}
-use Rattle.fl_history_sides.specs.Noted.{HistoryPuts, HistoryTakes, front_of}
 use Rattle.fl_history_events.specs.Events.{IsEventAfter}
-
--- how a running core steps over sides of one table
-abbrev pub history_sides : SideRelations TheHistorySide
-history_sides = ways HistoryPuts HistoryTakes front_of
 
 -- The steps of d are those of c, and behind them these, which can happen at one moment.
 pub record DidAnEvent (c d : TheCore) : Type 0 where

@@ -9,7 +9,7 @@ use Rattle.fl_history_rings.specs.declared.board.Entry.{Entry}
 use Rattle.fl_history_rings.specs.declared.board.SideEnd.{SideEnd}
 use Rattle.fl_history_rings.specs.Rings.{Way, Goes, Runs, IsByItsCore, steps_of}
 use Rattle.fl_history_rings.proofs.Logs.{then_is, else_is, steps_more, steps_same}
-use Rattle.fl_history_events.specs.Events.{MayFollow, IsEventAfter, joined, AreEvents, IsCut, CoreEvent, all_steps, events_of, Happens}
+use Rattle.fl_history_events.specs.Events.{MayFollow, IsEventAfter, joined, AreEvents, IsCut, CoreEvent, all_steps, events_of, EventGoes}
 use Rattle.fl_history_events.specs.Laws.{EventsHaveOneOrder}
 use Rattle.fl_history_events.proofs.Moving.{ByCore, runs_cut}
 use Rattle.fl_history_events.proofs.Cutting.{cons_none, last_or_none, snoc_same, nothing_joined, follow_cut, LastStep, last_step, events_both, steps_both, last_event, each_of, each_own, each_else, each_steps}
@@ -244,7 +244,7 @@ module _ (ends : List SideEnd) where
 
 -- what is done in this order is done event by event
 happen : (ends : List SideEnd) (before after : List Way) (order : List CoreEvent) → Runs (Goes ends) before (all_steps order) after
-    → Runs (Happens ends) before order after
+    → Runs (EventGoes ends) before order after
 happen ends before after [] run = run
 happen ends before after (d ∷ ds) run =
     let parts = runs_cut (Goes ends) before after d.steps (all_steps ds) run in

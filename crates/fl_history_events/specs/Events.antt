@@ -136,15 +136,15 @@ events_of core [] = []
 events_of core (e ∷ es) = if e.core == core then e.steps ∷ events_of core es else events_of core es
 
 -- all of an event, at one moment
-abbrev pub Happens : List SideEnd → List Way → CoreEvent → List Way → Type 0
-Happens ends before e after = Runs (Goes ends) before e.steps after
+abbrev pub EventGoes : List SideEnd → List Way → CoreEvent → List Way → Type 0
+EventGoes ends before e after = Runs (Goes ends) before e.steps after
 
 -- One order of these events of cores, from how the ways stood before to how they stand after.
 pub record EventsInOneOrder (ends : List SideEnd) (before : List Way) (events : ℕ → List (List Entry))
     (after : List Way) : Type 0 where
   pub order : List CoreEvent
   -- All of each event happens at one moment: each of its steps finds its ring as those before left it.
-  pub happen : Runs (Happens ends) before order after
+  pub happen : Runs (EventGoes ends) before order after
   -- So no step of another event comes between two of one.
   pub runs : Runs (Goes ends) before (all_steps order) after
   -- the steps of each are its core's, by sides of that core

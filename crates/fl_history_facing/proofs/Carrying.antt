@@ -1,8 +1,7 @@
 -- What an entry's own relation says of the side that is lent holds over another kind of sides, where each step does.
-use Rattle.std.proofs.Common.{ℕ, ◌≡◌, ◌⊎◌, inl, inr, ⊎_elim, List, [], ◌∷◌, slice_get, Option, Some, None, Result, Ok, Err, ap, subst, ◌∙◌, sym, refl}
-use Rattle.std.specs.declared.alloc.AllocError.{AllocError}
+use Rattle.std.proofs.Common.{ℕ, ◌≡◌, inl, inr, ⊎_elim, Result, Ok, Err, ap, subst, ◌∙◌, sym, refl}
 use Rattle.fl_base.specs.declared.fragment.Frag.{Frag}
-use Rattle.fl_link.specs.Looks.{Look, placed, no_room, spent, saw, saw_ack, found, found_ack, missed, told, kept}
+use Rattle.fl_link.specs.Looks.{Look, saw_ack, found_ack, missed}
 use Rattle.fl_lists.specs.declared.place.Place.{Place}
 use Rattle.fl_lists.specs.declared.place.Place.TheVariants as place
 use Rattle.fl_waitset.specs.declared.waitset.Pick.{Pick}
@@ -45,7 +44,7 @@ use Rattle.fl_core.specs.Ends.{at_side, WritesAt}
 use Rattle.fl_core.specs.BoardView.{TheBoard}
 use Rattle.fl_core.specs.BoardEvents.{Acks}
 use Rattle.fl_core.specs.BoardTurns.{WaitsIn, lent, moment, over, TakesOne, Gives, Examines, LooksAt, Turns}
-use Rattle.fl_core.specs.Links.{MonitorWrites, LinkOf, Seen, Going, GoesOver, LooksAhead, Inbound, Arrives, ArrivesAt, Acknowledges}
+use Rattle.fl_core.specs.Links.{MonitorWrites, LinkOf, Seen, Going, GoesOver, LooksAhead, Inbound, ArrivesAt, Acknowledges}
 use Rattle.fl_core.specs.Hearing.{TakesHeard}
 use Rattle.fl_core_run.specs.Run.{SideRelations}
 

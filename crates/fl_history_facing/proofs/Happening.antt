@@ -1,32 +1,18 @@
 -- An event of a core's log happens over sides that face each other, at its moment.
-use Rattle.std.proofs.Common.{ℕ, zero, suc, ◌≡◌, ◌≢◌, ◌⊎◌, List, [], ◌∷◌, ◌++◌, map, length, set, slice_get, slice_set, set-set, Option, Some, None, Result, Ok, Err, ap, subst, ◌∙◌, sym, refl}
+use Rattle.std.proofs.Common.{ℕ, zero, suc, ◌≡◌, ◌≢◌, List, [], ◌∷◌, ◌++◌, map, length, set, slice_get, Some, ap, subst, ◌∙◌, sym, refl}
 use mathlib.Core.Logic.{dite}
 use mathlib.Core.Option.{some}
 use native.Mathlib.Decide.{ℕ_discrete}
 use lib.ListN.{get_elem?}
 use Rattle.atomic_table.specs.Seated.{TableId}
-use Rattle.fl_base.specs.declared.fragment.Frag.{Frag}
-use Rattle.fl_base.specs.declared.identity.EndId.{EndId}
 use Rattle.fl_link.specs.Looks.{Look, no_room, spent}
-use Rattle.fl_link.specs.Queue.{TheQueue}
 use Rattle.fl_hop.specs.declared.forward.ForwardOutcome.TheVariants as outcome
-use Rattle.fl_endpoint.specs.declared.fault.EndFault.{EndFault}
-use Rattle.fl_monitor.specs.declared.fault.MonitorFault.TheVariants as monitor
-use Rattle.fl_core.specs.declared.kind.ChannelKind.TheVariants.{Ring}
-use Rattle.fl_core.specs.declared.turn_answer.TurnAnswer.{TurnAnswer}
-use Rattle.fl_core.specs.declared.turn_answer.TurnAnswer.TheVariants as turn
-use Rattle.fl_core.specs.declared.answer.MonitorAnswer.{MonitorAnswer}
-use Rattle.fl_core.specs.declared.answer.MonitorAnswer.TheVariants as answered
-use Rattle.fl_core.specs.declared.fault.LinkReceiveFault.{LinkReceiveFault}
-use Rattle.fl_core.specs.declared.fault.OpenFault.{OpenFault}
-use Rattle.fl_core.specs.declared.fault.OpenFault.TheVariants as opening
 use Rattle.fl_core.specs.declared.wiring.Inlet.TheVariants as inlet
 use Rattle.fl_core.specs.declared.wiring.Outlet.TheVariants as outlet
 use Rattle.fl_core.specs.Sound.{IsCore}
 use Rattle.fl_core.specs.View.{TheCore}
-use Rattle.fl_core_run.specs.EndProgress.{TheEndProgress}
-use Rattle.fl_core_run.specs.Run.{SideRelations, TheRun, AtProgress}
-use Rattle.fl_core_run.specs.LogEntries.{LogEntry, looked, passed, arrived, heard, said, told, opened, called, ruled, wrote, acked, turned, OnRing, OnQueue, OnCore, PutsAt, TakesAt, Does, Notes, NotesHeard, NotesOpened, NotesCalled, NotesTurned, ActsSoundly}
+use Rattle.fl_core_run.specs.Run.{TheRun}
+use Rattle.fl_core_run.specs.LogEntries.{LogEntry, looked, passed, arrived, heard, said, told, opened, called, ruled, wrote, acked, turned, OnRing, PutsAt, TakesAt, Does}
 use Rattle.fl_cores_joined.specs.Rings.{FacingSide}
 use Rattle.fl_cores_joined.specs.Steps.{true_ways}
 use Rattle.fl_cores_joined.proofs.Lifted.{queue_lifted, core_lifted, notes_lifted, acts_lifted}
@@ -36,7 +22,8 @@ use Rattle.fl_history_rings.specs.Rings.{Way, Goes, Runs, all_empty, IsByItsCore
 use Rattle.fl_history_rings.specs.Rule.{ArePaired}
 use Rattle.fl_history_rings.specs.Cores.{TheCore as HistoryCore}
 use Rattle.fl_history_sides.specs.States.{TheHistorySide}
-use Rattle.fl_history_entries.specs.Entries.{history_sides, MayComeNext}
+use Rattle.fl_history_sides.specs.Ways.{history_ways}
+use Rattle.fl_history_entries.specs.Entries.{MayComeNext}
 use Rattle.fl_history_entries.proofs.Eventful.{set_here, set_else, one_there}
 use Rattle.fl_history_entries.proofs.Happening.{map_at, ring_seat, notes_leave}
 use Rattle.fl_history_facing.specs.Moments.{AreSidesAt, AreOfTwoCores, beside, run_beside}
@@ -82,18 +69,18 @@ module _ (table : TableId) (ends : List SideEnd) (log steps : List Entry) (ways 
   abbrev fr : TheRun TheHistorySide → TheRun FacingSide
   fr = run_beside table ends log
 
-  carry : (n : ℕ) (p q : TheHistorySide) → slice_get s.rings n ≡ Some p → slice_get t.rings n ≡ Some q → Carried f history_sides true_ways p q
+  carry : (n : ℕ) (p q : TheHistorySide) → slice_get s.rings n ≡ Some p → slice_get t.rings n ≡ Some q → Carried f history_ways true_ways p q
   carry n p q at at2 = carried table ends log steps ways after c d s.rings t.rings paired apart by run goes h k same_number more n p q at at2
 
   -- over one side alone
-  alone : (n : ℕ) (Event : TheCore → TheHistorySide → TheCore → TheHistorySide → Type 0) (on : OnRing n s Event t) → Carried f history_sides true_ways on.before on.after
+  alone : (n : ℕ) (Event : TheCore → TheHistorySide → TheCore → TheHistorySide → Type 0) (on : OnRing n s Event t) → Carried f history_ways true_ways on.before on.after
   alone n Event on =
       carry n on.before on.after on.before_is
       (ap (λ (z : TheRun TheHistorySide). slice_get z.rings n) on.rest ∙ set_here s.rings n on.before on.after on.before_is)
 
   -- ---- a fragment passes on
 
-  module _ (mid : TheRun TheHistorySide) (to n : ℕ) (one two : Look) (puts : PutsAt history_sides to one s mid) (takes : TakesAt history_sides n two mid t) where
+  module _ (mid : TheRun TheHistorySide) (to n : ℕ) (one two : Look) (puts : PutsAt history_ways to one s mid) (takes : TakesAt history_ways n two mid t) where
     put_there : slice_get mid.rings to ≡ Some puts.after
     put_there = ap (λ (z : TheRun TheHistorySide). slice_get z.rings to) puts.rest ∙ set_here s.rings to puts.before puts.after puts.before_is
 
@@ -116,7 +103,7 @@ module _ (table : TableId) (ends : List SideEnd) (log steps : List Entry) (ways 
     passed_back : to ≡ n → Both
     passed_back is =
         let middle : puts.after ≡ takes.before = one_there mid.rings to puts.after takes.before put_there (ap (slice_get mid.rings) is ∙ takes.before_is) in
-        let take_so : history_sides.takes puts.after two takes.after = subst (λ (z : TheHistorySide). history_sides.takes z two takes.after) (sym middle) takes.event.0 in
+        let take_so : history_ways.takes puts.after two takes.after = subst (λ (z : TheHistorySide). history_ways.takes z two takes.after) (sym middle) takes.event.0 in
         let both =
         carried_back table ends log steps ways after c d s.rings t.rings paired apart by run goes h k same_number more to puts.before takes.after puts.before_is
         (ap (slice_get t.rings) is ∙ taken_there) puts.after one two puts.event.0 take_so in
@@ -134,30 +121,30 @@ module _ (table : TableId) (ends : List SideEnd) (log steps : List Entry) (ways 
 
   -- ---- each kind of entry
 
-  does : (log_entry : LogEntry) → Does history_sides log_entry s t → MayComeNext log_entry s → Does true_ways log_entry (fr s) (fr t)
-  does (looked n l answer) on may = on_ring table ends log n s t _ _ on (looks_carried f history_sides true_ways on.before on.after (alone n _ on) l.0 s.core t.core answer on.event)
+  does : (log_entry : LogEntry) → Does history_ways log_entry s t → MayComeNext log_entry s → Does true_ways log_entry (fr s) (fr t)
+  does (looked n l answer) on may = on_ring table ends log n s t _ _ on (looks_carried f history_ways true_ways on.before on.after (alone n _ on) l.0 s.core t.core answer on.event)
   does (passed n to frag circuit outcome.Moved) (mid, puts, takes) may = passed_on mid to n _ _ puts takes
   does (passed n to frag circuit outcome.Full) on may = on_ring table ends log to s t _ _ on ((alone to _ on).put no_room on.event.0, on.event.1)
   does (passed n to frag circuit outcome.Spent) on may = on_ring table ends log to s t _ _ on ((alone to _ on).put spent on.event.0, on.event.1)
   does (arrived n l frag e answer) on may =
-      on_ring table ends log n s t _ _ on (arrives_carried f history_sides true_ways on.before on.after (alone n _ on) _ s.core t.core answer on.event)
+      on_ring table ends log n s t _ _ on (arrives_carried f history_ways true_ways on.before on.after (alone n _ on) _ s.core t.core answer on.event)
   does (heard n l frag answer) on may =
-      on_ring table ends log n s t _ _ on (on.event.0, heard_carried f history_sides true_ways on.before on.after (alone n _ on) frag answer on.event.1)
-  does (said n l answer) on may = on_ring table ends log n s t _ _ on (said_carried f history_sides true_ways on.before on.after (alone n _ on) l.0 s.core t.core answer on.event)
+      on_ring table ends log n s t _ _ on (on.event.0, heard_carried f history_ways true_ways on.before on.after (alone n _ on) frag answer on.event.1)
+  does (said n l answer) on may = on_ring table ends log n s t _ _ on (said_carried f history_ways true_ways on.before on.after (alone n _ on) l.0 s.core t.core answer on.event)
   does (told n l answer) on may =
-      on_ring table ends log n s t _ _ on (told_carried f history_sides true_ways on.before on.after (alone n _ on) answer on.event.0, on.event.1)
+      on_ring table ends log n s t _ _ on (told_carried f history_ways true_ways on.before on.after (alone n _ on) answer on.event.0, on.event.1)
   does (opened name request answer) on may = core_lifted (map f) s t _ on
   does (called name call answer) (e, at, on) may = (e, at, core_lifted (map f) s t _ on)
   does (ruled name msg reply answer) (e, at, on) may = (e, at, core_lifted (map f) s t _ on)
   does (wrote name (outlet.Queue n) answer) (e, at, on) may = (e, at, queue_lifted (map f) n s t _ on)
   does (wrote name (outlet.Side n) answer) (e, at, on) may =
-      (e, at, on_ring table ends log n s t _ _ on (wrote_carried f history_sides true_ways on.before on.after (alone n _ on) e s.core t.core answer on.event))
+      (e, at, on_ring table ends log n s t _ _ on (wrote_carried f history_ways true_ways on.before on.after (alone n _ on) e s.core t.core answer on.event))
   does (acked name n answer) (e, at, on) may =
       let seat = on.event.0 in (
         e,
         at,
         on_ring table ends log n s t _ _ on
-            ((seat.0, seat.1, acks_carried f history_sides true_ways on.before on.after (alone n _ on) seat.0.kind seat.0.end answer seat.2), on.event.1),
+            ((seat.0, seat.1, acks_carried f history_ways true_ways on.before on.after (alone n _ on) seat.0.kind seat.0.end answer seat.2), on.event.1),
       )
   does (turned dispatcher name (inlet.Queue n) answer) (e, at, due_is, on) may = (e, at, due_is, queue_lifted (map f) n s t _ on)
   does (turned dispatcher name (inlet.Side n) answer) (e, at, due_is, on) may = (
@@ -167,7 +154,7 @@ module _ (table : TableId) (ends : List SideEnd) (log steps : List Entry) (ways 
     on_ring table ends log n s t _ _ on
         (record {
           event =
-              turns_carried f history_sides true_ways on.before on.after (alone n _ on) dispatcher e s.core.board t.core.board answer on.event.event
+              turns_carried f history_ways true_ways on.before on.after (alone n _ on) dispatcher e s.core.board t.core.board answer on.event.event
               (ring_seat s e n on.event.event.seat sound on.event.event.seat_is (may e at));
           rest = on.event.rest;
         }),
@@ -186,4 +173,5 @@ entries_happen_truly = λ table ends log steps ways after s t log_entry c d pair
       notes_lifted (map (beside table ends log)) log_entry mid t happens.2,
       happens.3,
       acts_lifted (map (beside table ends log)) log_entry s happens.4,
+      tt,
     )

@@ -1,5 +1,5 @@
 -- A side's steps within an event, at its moment, are true ones.
-use Rattle.std.proofs.Common.{ℕ, zero, suc, ◌≡◌, ◌≢◌, ◌<◌, ◌+◌, ◌-◌, ◌⊎◌, ⊎_elim, lt_of_not-le, Option, Some, None, List, [], ◌∷◌, ◌++◌, length, drop, slice_get, ap, subst, ◌∙◌, sym, refl, arith, append_assoc, append-nil, length-append}
+use Rattle.std.proofs.Common.{ℕ, suc, ◌≡◌, ◌≢◌, ◌+◌, ◌-◌, ⊎_elim, lt_of_not-le, Option, Some, None, List, [], ◌∷◌, ◌++◌, length, drop, slice_get, ap, subst, ◌∙◌, sym, refl, arith, append_assoc, append-nil}
 use Rattle.std.specs.List.{AllByRecursion}
 use mathlib.Core.Logic.{dite}
 use mathlib.Core.Option.{some}
@@ -9,23 +9,23 @@ use Rattle.atomic_table.specs.Seated.{TableId}
 use Rattle.fl_base.specs.declared.fragment.Frag.{Frag}
 use Rattle.fl_link.specs.Looks.{Look, placed, no_room, spent, saw, saw_ack, found, found_ack, missed, told, kept}
 use Rattle.fl_ring.specs.SharedSides.{TheSide, Looked, SharedPuts, SharedTakes}
-use Rattle.fl_cores_joined.specs.Rings.{standing_for, FindsWhatStood, Truly}
+use Rattle.fl_cores_joined.specs.Rings.{standing_for, FindsWhatStood}
 use Rattle.fl_cores_joined.specs.Steps.{true_ways}
 use Rattle.fl_history_rings.specs.declared.board.Action.{Action}
 use Rattle.fl_history_rings.specs.declared.board.Action.TheVariants.{Put, Found, Missed, Saw, Took}
 use Rattle.fl_history_rings.specs.declared.board.Entry.{Entry}
 use Rattle.fl_history_rings.specs.declared.board.SideEnd.{SideEnd}
 use Rattle.fl_history_rings.specs.Rings.{mate, Way, Goes, Runs, all_empty, IsByItsCore, steps_of}
-use Rattle.fl_history_rings.specs.Rule.{gather, one_put, one_took, one_action, puts_at, takes_at, slots_of, seen_from, ArePaired}
+use Rattle.fl_history_rings.specs.Rule.{gather, one_took, one_action, takes_at, slots_of, seen_from, ArePaired}
 use Rattle.fl_history_rings.specs.Cores.{TheCore}
-use Rattle.fl_history_rings.proofs.Logs.{within, there, same_there}
+use Rattle.fl_history_rings.proofs.Logs.{within, there}
 use Rattle.fl_history_rings.proofs.Words.{mate_back}
 use Rattle.fl_history_sides.specs.States.{TheHistorySide, until_last, side_after, shown_of, numbers_of}
 use Rattle.fl_history_sides.specs.Noted.{Notes, IsNoted}
 use Rattle.fl_history_sides.specs.Core.{IsStepBy}
 use Rattle.fl_history_sides.proofs.Prefixes.{Numbered, numbered}
 use Rattle.fl_history_events.proofs.Cutting.{gather_join}
-use Rattle.fl_history_entries.specs.Entries.{history_sides}
+use Rattle.fl_history_sides.specs.Ways.{history_ways}
 use Rattle.fl_history_entries.proofs.Growing.{all_at, all_behind, cancel, gather_until, grew_on}
 use Rattle.fl_history_facing.specs.Facing.{side_at}
 use Rattle.fl_history_facing.specs.Moments.{AreSidesAt, AreOfTwoCores, beside}
@@ -348,7 +348,7 @@ module _ (table : TableId) (ends : List SideEnd) (log steps : List Entry) (ways 
               (step_two i p q at at2 number x one two first second keeps.0 keeps.1),
         )
 
-    pub carried : Carried (beside table ends log) history_sides true_ways p q
+    pub carried : Carried (beside table ends log) history_ways true_ways p q
     carried = record {
       put = λ look step. (step.0, once i p q at at2 step.1.number look step.1, across_same p q step.1.number);
       take = λ look step. (step.0, once i p q at at2 step.1.number look step.1, across_same p q step.1.number);
@@ -359,7 +359,7 @@ module _ (table : TableId) (ends : List SideEnd) (log steps : List Entry) (ways 
     }
 
     -- a put, and a take by the same side
-    pub carried_back : (x : TheHistorySide) (one two : Look) → history_sides.puts p one x → history_sides.takes x two q
+    pub carried_back : (x : TheHistorySide) (one two : Look) → history_ways.puts p one x → history_ways.takes x two q
         → true_ways.puts (beside table ends log p) one (beside table ends log x) × true_ways.takes (beside table ends log x) two (beside table ends log q)
     carried_back x one two first second =
         let both = two_true x one two first.1 second.1 (puts_keep p.side one x.side first.0) in

@@ -18,7 +18,8 @@ use Rattle.fl_core_run.specs.LogEntries.{LogEntry, Happens}
 use Rattle.fl_cores_joined.specs.Steps.{true_ways}
 use Rattle.fl_history_rings.specs.Cores.{TheCore}
 use Rattle.fl_history_sides.specs.States.{TheHistorySide, side_after}
-use Rattle.fl_history_entries.specs.Entries.{history_sides, MayComeNext}
+use Rattle.fl_history_sides.specs.Ways.{history_ways}
+use Rattle.fl_history_entries.specs.Entries.{MayComeNext}
 use Rattle.fl_history_facing.specs.Moments.{AreSidesAt, AreOfTwoCores, run_beside}
 
 -- what the side of this number goes through by these steps of its core, behind those before them, finds what stands
@@ -61,5 +62,5 @@ EntriesHappenTruly = (table : TableId) (ends : List SideEnd) (log steps : List E
     → Runs (Goes ends) (all_empty (length ends)) log ways → Runs (Goes ends) ways steps after
     → AreSidesAt table ends log c s.rings → AreSidesAt table ends (log ++ steps) d t.rings
     → d.number ≡ c.number → d.steps ≡ c.steps ++ steps
-    → Happens history_sides log_entry s t → MayComeNext log_entry s
+    → Happens history_ways log_entry s t → MayComeNext log_entry s
     → Happens true_ways log_entry (run_beside table ends log s) (run_beside table ends log t)

@@ -1,3 +1,4 @@
 pub mod Cores
 pub mod Events
 pub mod Turning
+pub mod Next

@@ -1,5 +1,5 @@
 -- By the order of events, one event after another.
-use Rattle.std.proofs.Common.{ℕ, zero, suc, ◌≡◌, ◌≢◌, ◌<◌, ◌≤◌, ◌+◌, ◌⊎◌, ⊎_elim, ◌==◌, if◌then◌else◌, eq-eqb, ne_eqb, List, [], ◌∷◌, ◌++◌, length, map, slice_get, slice_set, Option, Some, None, ap, subst, ◌∙◌, sym, refl, arith, append-nil, lt_of_not-le}
+use Rattle.std.proofs.Common.{ℕ, zero, suc, ◌≡◌, ◌≢◌, ◌<◌, ◌≤◌, ⊎_elim, ◌==◌, eq-eqb, ne_eqb, List, [], ◌∷◌, ◌++◌, length, map, slice_get, Option, Some, ap, subst, ◌∙◌, sym, refl, arith, append-nil, lt_of_not-le}
 use mathlib.Core.Logic.{dite}
 use mathlib.Core.Option.{some, some-ne-none}
 use native.Mathlib.Decide.{dec_le, ℕ_discrete}
@@ -8,20 +8,20 @@ use Rattle.atomic_table.specs.Seated.{TableId}
 use Rattle.fl_ring.specs.SharedSides.{TheSide}
 use Rattle.fl_core.specs.declared.core_job.CoreJob.{CoreJob}
 use Rattle.fl_core_run.specs.Run.{TheRun, over}
-use Rattle.fl_core_run.specs.LogEntries.{LogEntry, Happens}
+use Rattle.fl_core_run.specs.LogEntries.{LogEntry}
 use Rattle.fl_cores_joined.specs.Rings.{FacingSide}
 use Rattle.fl_cores_joined.specs.Joined.{JoinedCore, HasSide, across_from, alone, IsBeside}
-use Rattle.fl_cores_joined.specs.Steps.{true_ways, HappensAt}
+use Rattle.fl_cores_joined.specs.Steps.{HappensAt}
 use Rattle.fl_cores_joined.proofs.Lifted.{in_place_lifted}
 use Rattle.fl_history_rings.specs.declared.board.Entry.{Entry}
 use Rattle.fl_history_rings.specs.declared.board.SideEnd.{SideEnd}
 use Rattle.fl_history_rings.specs.Rings.{mate, Way, Goes, Runs, all_empty, IsByItsCore, steps_of}
 use Rattle.fl_history_rings.specs.Rule.{gather, one_action, ArePaired, slots_of}
 use Rattle.fl_history_rings.specs.Cores.{TheCore}
-use Rattle.fl_history_rings.proofs.Logs.{then_is, else_is, same_there}
+use Rattle.fl_history_rings.proofs.Logs.{then_is, else_is}
 use Rattle.fl_history_sides.specs.States.{TheHistorySide, side_after, shown_of, numbers_of}
 use Rattle.fl_history_sides.proofs.Prefixes.{Numbered, numbered}
-use Rattle.fl_history_events.specs.Events.{IsEventAfter, IsCut, joined, CoreEvent, events_of, Happens as EventHappens, EventsInOneOrder}
+use Rattle.fl_history_events.specs.Events.{IsEventAfter, IsCut, joined, CoreEvent, events_of, EventGoes, EventsInOneOrder}
 use Rattle.fl_history_events.proofs.Cutting.{cons_none, cons_same, events_here, events_else}
 use Rattle.fl_history_events.proofs.Gathered.{AllOf, steps_join, steps_own, steps_others, at_either, did_nothing}
 use Rattle.fl_history_events.proofs.Moving.{runs_join}
@@ -34,7 +34,7 @@ use Rattle.fl_history_facing.specs.Moments.{AreSidesAt, AreOfTwoCores, beside, r
 use Rattle.fl_history_facing.proofs.Acted.{side_by, side_is}
 use Rattle.fl_history_facing.proofs.Sides.{slots_at, own_steps}
 use Rattle.fl_history_facing.proofs.Happening.{entries_happen_truly}
-use Rattle.fl_history_orders.specs.Orders.{CoreMoment, HoldsSides, LoggedEvent, IsNext, LogGoes, each_from, joined_core, joined_cores, AreHeld, RanInOneOrder, CoreTurn, HappenInTurn, entries_of, LogsInOneOrder}
+use Rattle.fl_history_orders.specs.Orders.{CoreMoment, LoggedEvent, IsNext, LogGoes, joined_core, joined_cores, AreHeld, RanInOneOrder, CoreEntry, entries_of, LogsInOneOrder}
 use Rattle.fl_history_orders.specs.Laws.{LogsHaveOneOrder}
 use Rattle.fl_history_orders.proofs.Cores.{changed, changed_here, changed_else, each_at, each_alike, each_set, across_mate, map_twice}
 use Rattle.fl_history_orders.proofs.Events.{steps_in, all_did, log_events}
@@ -251,10 +251,10 @@ module _ (table : TableId) (ends : List SideEnd) (jobs : List CoreJob) (count : 
   abbrev Turned : (ℕ → CoreMoment) → (ℕ → List LoggedEvent) → Type 0
   Turned at rest = LogsInOneOrder jobs (cores_at at) rest (cores_at end)
 
-  entries_here : (n : ℕ) (x : CoreTurn) (turns : List CoreTurn) → x.core ≡ n → entries_of n (x ∷ turns) ≡ x.log_entry ∷ entries_of n turns
+  entries_here : (n : ℕ) (x : CoreEntry) (turns : List CoreEntry) → x.core ≡ n → entries_of n (x ∷ turns) ≡ x.log_entry ∷ entries_of n turns
   entries_here n x turns is = then_is (x.core == n) (x.log_entry ∷ entries_of n turns) (entries_of n turns) (eq-eqb x.core n is)
 
-  entries_else : (n : ℕ) (x : CoreTurn) (turns : List CoreTurn) → x.core ≢ n → entries_of n (x ∷ turns) ≡ entries_of n turns
+  entries_else : (n : ℕ) (x : CoreEntry) (turns : List CoreEntry) → x.core ≢ n → entries_of n (x ∷ turns) ≡ entries_of n turns
   entries_else n x turns ne = else_is (x.core == n) (x.log_entry ∷ entries_of n turns) (entries_of n turns) (ne_eqb x.core n ne)
 
   first_of : (events : List LoggedEvent) (steps : List Entry) (more : List (List Entry)) → steps ∷ more ≡ steps_in events
@@ -279,7 +279,7 @@ module _ (table : TableId) (ends : List SideEnd) (jobs : List CoreJob) (count : 
   }
 
   turned : (order : List CoreEvent) (log : List Entry) (ways ways2 : List Way) (at : ℕ → CoreMoment) (rest : ℕ → List LoggedEvent) → Now log ways at rest
-      → Runs (EventHappens ends) ways order ways2
+      → Runs (EventGoes ends) ways order ways2
       → ((i j : ℕ) (d : CoreEvent) (e : Entry) → get_elem? order i ≡ some d → get_elem? d.steps j ≡ some e → (e.core ≡ d.core) × IsByItsCore ends e)
       → ((n : ℕ) → events_of n order ≡ steps_in (rest n)) → Turned at rest
   turned [] log ways ways2 at rest now run by did = finished log ways at rest now (λ n. nothing_left (rest n) (did n))

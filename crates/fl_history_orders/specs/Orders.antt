@@ -1,9 +1,9 @@
 -- What cores at one table of rings did, event by event of their logs, and one order of all of it.
-use Rattle.std.specs.Prelude.{ℕ, zero, suc, ◌≡◌, ◌<◌, ◌≤◌, ◌==◌, if◌then◌else◌, List, [], ◌∷◌, ◌++◌, length, map, slice_get, Some}
+use Rattle.std.specs.Prelude.{ℕ, zero, suc, ◌≡◌, ◌<◌, ◌≤◌, ◌==◌, if◌then◌else◌, List, [], ◌∷◌, ◌++◌, length, map}
+use Rattle.std.specs.Prelude.{slice_get, Some}
 use mathlib.Core.Option.{some}
 use lib.ListN.{get_elem?}
 use Rattle.atomic_table.specs.Seated.{TableId}
-use Rattle.fl_ring.specs.SharedSides.{TheSide}
 use Rattle.fl_core.specs.declared.core_job.CoreJob.{CoreJob}
 use Rattle.fl_core_run.specs.Run.{TheRun, over}
 use Rattle.fl_core_run.specs.LogEntries.{LogEntry, Happens}
@@ -16,7 +16,8 @@ use Rattle.fl_history_rings.specs.Rings.{Way, Goes, Runs, all_empty, IsByItsCore
 use Rattle.fl_history_rings.specs.Cores.{TheCore, OwnsSlots}
 use Rattle.fl_history_sides.specs.States.{TheHistorySide, numbers_of}
 use Rattle.fl_history_sides.specs.Core.{AreSidesOf}
-use Rattle.fl_history_entries.specs.Entries.{history_sides, MayComeNext}
+use Rattle.fl_history_sides.specs.Ways.{history_ways}
+use Rattle.fl_history_entries.specs.Entries.{MayComeNext}
 
 -- ---- one core
 
@@ -24,6 +25,9 @@ use Rattle.fl_history_entries.specs.Entries.{history_sides, MayComeNext}
 pub record CoreMoment : Type 0 where
   pub run : TheRun TheHistorySide
   pub core : TheCore
+
+abbrev pub moment_of : TheRun TheHistorySide → TheCore → CoreMoment
+moment_of run core = record { run = run; core = core }
 
 -- all its sides are that core's, which is of this table
 pub record HoldsSides (table : TableId) (ends : List SideEnd) (x : CoreMoment) : Type 0 where
@@ -40,7 +44,7 @@ pub record LoggedEvent : Type 0 where
 -- it happens in its place, from the one moment to the other; all sides are the core's then, and its steps are these more
 pub record IsNext (table : TableId) (ends : List SideEnd) (jobs : List CoreJob) (x : CoreMoment) (e : LoggedEvent)
     (y : CoreMoment) : Type 0 where
-  pub happens : Happens history_sides e.log_entry x.run y.run
+  pub happens : Happens history_ways e.log_entry x.run y.run
   pub in_place : InPlace jobs x.run e.log_entry
   pub may : MayComeNext e.log_entry x.run
   pub holds : HoldsSides table ends y
@@ -53,6 +57,14 @@ abbrev pub LogGoes : TableId → List SideEnd → List CoreJob → CoreMoment �
 LogGoes table ends jobs x [] y = y ≡ x
 LogGoes table ends jobs x (e ∷ events) y =
     (m : CoreMoment) × IsNext table ends jobs x e m × LogGoes table ends jobs m events y
+
+-- a log led from one moment to this run: it is events of a core whose sides these are in the end, each in its place
+pub record LogsOn (table : TableId) (ends : List SideEnd) (jobs : List CoreJob) (x : CoreMoment)
+    (log : List LogEntry) (run : TheRun TheHistorySide) : Type 0 where
+  pub core : TheCore
+  pub events : List LoggedEvent
+  pub goes : LogGoes table ends jobs x events (moment_of run core)
+  pub entries : map (λ (e : LoggedEvent). e.log_entry) events ≡ log
 
 -- ---- all cores
 
@@ -95,24 +107,24 @@ pub record RanInOneOrder (table : TableId) (ends : List SideEnd) (jobs : List Co
 
 -- ---- one order of their logs
 
-pub record CoreTurn : Type 0 where
+pub record CoreEntry : Type 0 where
   pub core : ℕ
   pub log_entry : LogEntry
 
 -- each happens in its turn, and its loads find what stands in the rings then
-abbrev pub HappenInTurn : List CoreJob → List JoinedCore → List CoreTurn → List JoinedCore → Type 0
+abbrev pub HappenInTurn : List CoreJob → List JoinedCore → List CoreEntry → List JoinedCore → Type 0
 HappenInTurn jobs xs [] ys = ys ≡ xs
 HappenInTurn jobs xs (x ∷ turns) ys =
     (ms : List JoinedCore) × HappensAt jobs x.core x.log_entry xs ms × HappenInTurn jobs ms turns ys
 
 -- of these those of one core, in order
-abbrev pub entries_of : ℕ → List CoreTurn → List LogEntry
+abbrev pub entries_of : ℕ → List CoreEntry → List LogEntry
 entries_of n [] = []
 entries_of n (x ∷ turns) = if x.core == n then x.log_entry ∷ entries_of n turns else entries_of n turns
 
 -- one order of all events of these logs, from these joined cores to those
 pub record LogsInOneOrder (jobs : List CoreJob) (xs : List JoinedCore) (logs : ℕ → List LoggedEvent)
     (ys : List JoinedCore) : Type 0 where
-  pub turns : List CoreTurn
+  pub turns : List CoreEntry
   pub happen : HappenInTurn jobs xs turns ys
   pub each : (n : ℕ) → entries_of n turns ≡ map (λ (e : LoggedEvent). e.log_entry) (logs n)

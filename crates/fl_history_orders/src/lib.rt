@@ -6,4 +6,4 @@
 
 mod law;
 
-pub use law::law_logs_have_one_order;
+pub use law::{law_logs_have_one_order, law_runs_are_logged};

@@ -134,6 +134,7 @@ impl RingsCore {
     /// # Errors
     /// The side has put 2^62 fragments (E33). Else fewer than two slots are known to be free, also after a
     /// look at what stands first (E30): nothing was put, and the side knows what it saw there.
+    #[inline(always)]
     pub fn put(&mut self, side: &mut RingSide, frag: &Frag) -> Result<(), PutFault>
         requires mine { SideFor self.old side.old }
         requires data { is_ack_only frag.now ≡ false }
@@ -151,6 +152,7 @@ impl RingsCore {
 
     /// The fragment that stands first, which is left there: where one was seen by this side and not taken
     /// yet, that one. It may be one that only acknowledges.
+    #[inline(always)]
     pub fn look(&mut self, side: &mut RingSide) -> Option<Frag>
         requires mine { SideFor self.old side.old }
         ensures same { IsSameCore self.old self.new }
@@ -166,6 +168,7 @@ impl RingsCore {
 
     /// The fragment that stands first, which is taken: where one was seen by this side and not taken yet,
     /// that one. It may be one that only acknowledges. Its slot isn't free before it is acknowledged.
+    #[inline(always)]
     pub fn take(&mut self, side: &mut RingSide) -> Option<Frag>
         requires mine { SideFor self.old side.old }
         ensures same { IsSameCore self.old self.new }
@@ -185,6 +188,7 @@ impl RingsCore {
     /// # Errors
     /// There is so much to tell, and the side has put 2^62 fragments, or no slot is known to be free, also
     /// after a look (both E30, never E33): nothing was put. A side that has put 2^62 fragments does nothing.
+    #[inline(always)]
     pub fn tell(&mut self, side: &mut RingSide) -> Result<Told, PutFault>
         requires mine { SideFor self.old side.old }
         ensures same { IsSameCore self.old self.new }

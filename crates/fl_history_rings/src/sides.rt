@@ -107,6 +107,7 @@ impl RingSide {
     }
 
     // Puts a fragment, where two slots are free.
+    #[inline(always)]
     pub(crate) fn put(
         &mut self,
         top: &RingsShared,
@@ -140,6 +141,7 @@ impl RingSide {
     }
 
     // Acknowledges what the side took, where at least half of the slots are taken and unacknowledged.
+    #[inline(always)]
     pub(crate) fn tell(&mut self, top: &RingsShared, seat: &mut RingsSeat) -> Result<Told, PutFault>
         requires seated { IsSeated top.now.table_id top.now.key seat.old }
         requires rest { (view_at seat.old).knows ≡ Nothing }
@@ -175,6 +177,7 @@ impl RingSide {
     }
 
     // The fragment that stands first, which is left there.
+    #[inline(always)]
     pub(crate) fn look(&mut self, top: &RingsShared, seat: &mut RingsSeat) -> Option<Frag>
         requires seated { IsSeated top.now.table_id top.now.key seat.old }
         requires rest { (view_at seat.old).knows ≡ Nothing }
@@ -195,6 +198,7 @@ impl RingSide {
     }
 
     // The fragment that stands first, which is taken.
+    #[inline(always)]
     pub(crate) fn take(&mut self, top: &RingsShared, seat: &mut RingsSeat) -> Option<Frag>
         requires seated { IsSeated top.now.table_id top.now.key seat.old }
         requires rest { (view_at seat.old).knows ≡ Nothing }

@@ -196,4 +196,5 @@ module _ {S T : Type 0} (f : S → T) (w : SideRelations S) (v : SideRelations T
   acts (turned d name from a) s x = x
 
   pub happens : (entry : LogEntry) (s t : TheRun S) → Happens w entry s t → Happens v entry (shown_by f s) (shown_by f t)
-  happens entry s t (m, did, noted, sound, acted) = (shown m, does entry s m did, notes entry m t noted, sound, acts entry s acted)
+  happens entry s t (m, did, noted, sound, acted, whole) =
+      (shown m, does entry s m did, notes entry m t noted, sound, acts entry s acted, h.whole s.rings whole)

@@ -36,7 +36,8 @@ use Rattle.fl_core_run.specs.OpeningStatus.{TheRunSeat, Exchanges, ExchangesAt}
 use Rattle.fl_core_run.specs.Finished.{is_done_at, is_done, all_done}
 use Rattle.fl_core_run.specs.Ran.{RunTask, RunMoment, TakesStock, CountedTurn, EndsAs, Counted, GoesOn, CoreRan}
 use Rattle.fl_history_sides.specs.States.{TheHistorySide}
-use Rattle.fl_history_runs.specs.Shown.{history_ways, side_ways, IsShownBy, shown_by, shown_at, RunsAreShown}
+use Rattle.fl_history_sides.specs.Ways.{history_ways}
+use Rattle.fl_history_runs.specs.Shown.{shared_ways, IsShownBy, shown_by, shown_at, RunsAreShown}
 use Rattle.fl_history_runs.proofs.Events.{happens}
 
 -- steps one after another
@@ -285,8 +286,8 @@ module _ {S T : Type 0} (f : S → T) (w : SideRelations S) (v : SideRelations T
 
 -- ---- sides of one table
 
-shows_history : IsShownBy (λ (p : TheHistorySide). p.side) history_ways side_ways
-shows_history = record { puts = λ p look q puts. puts.0; takes = λ p look q takes. takes.0; front = λ p. refl }
+shows_history : IsShownBy (λ (p : TheHistorySide). p.side) history_ways shared_ways
+shows_history = record { puts = λ p look q puts. puts.0; takes = λ p look q takes. takes.0; front = λ p. refl; whole = λ ss one. tt }
 
 pub runs_are_shown : RunsAreShown
-runs_are_shown = λ t a b part ran. ran_shown (λ (p : TheHistorySide). p.side) history_ways side_ways shows_history t a b part ran
+runs_are_shown = λ t a b part ran. ran_shown (λ (p : TheHistorySide). p.side) history_ways shared_ways shows_history t a b part ran

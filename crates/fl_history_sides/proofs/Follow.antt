@@ -10,7 +10,7 @@ use Rattle.fl_history_rings.specs.Cores.{TheCore}
 use Rattle.fl_history_sides.specs.States.{TheHistorySide, acts_in, until_last, with_steps, core_until, numbers_of}
 use Rattle.fl_history_sides.specs.Noted.{GoesOn, noting_all}
 use Rattle.fl_history_sides.specs.Core.{IsStepBy, AreSidesOf}
-use Rattle.fl_history_sides.specs.Laws.{CoresFollow}
+use Rattle.fl_history_sides.specs.Laws.{CoresFollow, SidesTellCore}
 use Rattle.fl_history_sides.proofs.Lists.{map_set}
 use Rattle.fl_history_sides.proofs.Until.{until_here, acts_here}
 use Rattle.fl_history_sides.proofs.Prefixes.{EndsWith, last_of, Begins, both_begin, all_before, all_last, begins_until, until_grows, until_still, noting_grows, noting_longer, Numbered, numbered}
@@ -205,3 +205,12 @@ by_actions c d ss n p q (a ∷ did) h k at same (since, none, is) = follows c d 
 
 pub cores_follow : CoresFollow
 cores_follow = by_actions
+
+-- ---- no other core has these sides
+
+alone : (c d : TheCore) (ss : List TheHistorySide) → AreSidesOf c ss → AreSidesOf d ss → 0 < length ss → d ≡ c
+alone c d [] h k some = absurd (omega (arith, some))
+alone c d (p ∷ ss) h k some = cores_follow c d (p ∷ ss) 0 p p [] h k refl refl refl
+
+pub sides_tell_core : SidesTellCore
+sides_tell_core = alone

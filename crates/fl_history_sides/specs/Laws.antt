@@ -1,5 +1,5 @@
 -- What is told of a core's sides. Laws.
-use Rattle.std.specs.Prelude.{ℕ, ◌≡◌, ◌⊎◌, List, [], slice_get, slice_set, Some}
+use Rattle.std.specs.Prelude.{ℕ, ◌≡◌, ◌<◌, ◌⊎◌, List, [], length, slice_get, slice_set, Some}
 use Rattle.fl_link.specs.Looks.{Look, Looks, LinkStep}
 use Rattle.fl_ring.specs.SharedSides.{SharedPuts, SharedTakes, SidesNear}
 use mathlib.Core.Option.{some}
@@ -28,6 +28,10 @@ SidesStay = (p q : TheHistorySide) (looks : List Look) → Looks (LinkStep Histo
 abbrev pub OneTellsAll : Type 0
 OneTellsAll = (c : TheCore) (ss : List TheHistorySide) → AreSidesOf c ss
     → (c.steps ≡ []) ⊎ ((n : ℕ) × (p : TheHistorySide) × (slice_get ss n ≡ Some p) × (p.core ≡ c))
+
+-- Law: where a core has sides, they are of no other.
+abbrev pub SidesTellCore : Type 0
+SidesTellCore = (c d : TheCore) (ss : List TheHistorySide) → AreSidesOf c ss → AreSidesOf d ss → 0 < length ss → d ≡ c
 
 -- Law: where one side of a core goes on by these actions and the others stay, the core did just these.
 abbrev pub CoresFollow : Type 0

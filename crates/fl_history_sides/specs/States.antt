@@ -91,6 +91,6 @@ side_shown c a = shown_of c a.put.cursor.size a.put.side
 abbrev pub first_shown : TheCore → ℕ → TheHistorySide
 first_shown c s = shown_of c (slots_of c.sides s) s
 
--- no two of these numbers are the same
+-- their numbers in the table
 abbrev pub numbers_of : List TheHistorySide → List ℕ
 numbers_of ss = map (λ p. p.number) ss

@@ -1,6 +1,7 @@
 //! What the sides of a core tell of it: laws, as contracts of functions that do nothing.
 
-ghost use Rattle.fl_history_sides.specs.Laws.{SidesAreShared, SidesStay, OneTellsAll, CoresFollow, RingsAreNear};
+ghost use Rattle.fl_history_sides.specs.Laws.{SidesAreShared, SidesStay, OneTellsAll, SidesTellCore, CoresFollow};
+ghost use Rattle.fl_history_sides.specs.Laws.{RingsAreNear};
 
 /// What a side of a core does in a row, a side of a ring that has a table of its own does.
 pub fn law_sides_are_shared()
@@ -12,9 +13,14 @@ pub fn law_sides_stay()
     ensures stay { SidesStay }
 {}
 
-/// A core that did something is as one of its sides tells: what each of them tells is a prefix of that.
+/// A core that did something is as one of its sides tells.
 pub fn law_one_tells_all()
     ensures tells { OneTellsAll }
+{}
+
+/// Where a core has sides, they are of no other.
+pub fn law_sides_tell_core()
+    ensures tell { SidesTellCore }
 {}
 
 /// Where one side of a core goes on and the others stay, the core did what that side noted, behind all that

@@ -1,11 +1,11 @@
 //! A core with its sides, while one of them is lent.
 
-ghost use Rattle.std.specs.Prelude.{◌≡◌, ◌≢◌, ◌<◌, ℕ, Ok, Err, OnOk, false, length};
+ghost use Rattle.std.specs.Prelude.{◌≡◌, ◌<◌, length};
 ghost use Rattle.std.specs.List.{AllByRecursion};
 ghost use Rattle.fl_base.specs.declared.fragment.Frag.{Frag};
-ghost use Rattle.fl_base.specs.Control.{is_ack_only, bare};
+ghost use Rattle.fl_base.specs.Control.{is_ack_only};
 ghost use Rattle.fl_history_sides.specs.Lent.{LentPuts, LentTakes, lent_has_room, lent_epoch, lent_told};
-ghost use Rattle.fl_history_sides.specs.Lent.{lent_known, state_of, states_of, sight_in};
+ghost use Rattle.fl_history_sides.specs.Lent.{lent_known, state_of, states_of, lending, sight_in};
 ghost use Rattle.fl_history_sides.specs.Core.{AreSidesOf, IsOwnSide};
 ghost use Rattle.fl_history_sides.specs.Noted.{front_of};
 
@@ -63,7 +63,7 @@ impl PutSide for LentSide {
         self.sides[self.at].room()
     }
 
-    #[inline(always)]
+    #[inline]
     fn put(&mut self, frag: &Frag) -> Result<(), PutFault> {
         self.core.put(&mut self.sides[self.at], frag)
     }
@@ -89,33 +89,50 @@ impl TakeSide for LentSide {
 
     ghost front = { λ s. front_of (state_of s) };
 
-    #[inline(always)]
+    #[inline]
     fn peek(&mut self) -> Sight {
         sight(self.core.look(&mut self.sides[self.at]))
     }
 
-    #[inline(always)]
+    #[inline]
     fn take(&mut self) -> Sight {
         sight(self.core.take(&mut self.sides[self.at]))
     }
 
-    #[inline(always)]
+    #[inline]
     fn tell(&mut self) -> Result<Told, PutFault> {
         self.core.tell(&mut self.sides[self.at])
     }
 }
 
 impl LentSide {
-    // How many sides there are.
+    /// The side of this number is lent from here on.
     #[inline(always)]
-    pub(crate) fn count(&self) -> usize
+    pub fn lend(&mut self, n: usize)
+        requires there { n < length (states_of self.old) }
+        ensures lent { self.new ≡ lending self.old n }
+    {
+        self.at = n;
+    }
+
+    /// Which of them is lent.
+    #[inline(always)]
+    pub fn at(&self) -> usize
+        ensures at { result ≡ self.now.at }
+    {
+        self.at
+    }
+
+    /// How many sides there are.
+    #[inline(always)]
+    pub fn count(&self) -> usize
         ensures count { result ≡ length (states_of self.now) }
     {
         self.sides.len()
     }
 
-    // All that the core did is shown by its sides.
-    pub(crate) fn shows(&self)
+    /// All that the core did is shown by its sides.
+    pub fn shows(&self)
         ensures one { AreSidesOf self.now.core (states_of self.now) }
     {
         let _ = &self.at;

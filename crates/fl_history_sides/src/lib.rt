@@ -20,6 +20,7 @@ mod sides;
 
 pub use law::{
     law_cores_follow, law_one_tells_all, law_rings_are_near, law_sides_are_shared, law_sides_stay,
+    law_sides_tell_core,
 };
 pub use lent::LentSide;
 pub use sides::HistorySides;

@@ -1,12 +1,12 @@
 //! A core's sides, made and gone over.
 
-ghost use Rattle.std.specs.Prelude.{ℕ, ◌≡◌, ◌<◌, [], List, length, map, Some, IfOk, MatchOption};
+ghost use Rattle.std.specs.Prelude.{◌≡◌, ◌<◌, [], length, map, Some, IfOk, MatchOption};
 ghost use Rattle.std.specs.List.{AllByRecursion};
 ghost use Rattle.fl_history_rings.specs.Cores.{Owns};
 ghost use Rattle.fl_history_sides.specs.States.{TheHistorySide, first_shown};
-ghost use Rattle.fl_history_sides.specs.Noted.{HistoryPuts, HistoryTakes, front_of};
 ghost use Rattle.fl_history_sides.specs.Lent.{TheRest, AreFirst, state_of, rest_of, states_in, Lends};
-ghost use Rattle.fl_history_sides.specs.Core.{IsDistinct, IsOwnSide, AreSidesOf, AreOfOneCore};
+ghost use Rattle.fl_history_sides.specs.Core.{IsDistinct, IsOwnSide, AreSidesOf};
+ghost use Rattle.fl_history_sides.specs.Ways.{history_ways};
 
 use crate::lent::LentSide;
 use fl_core_run::CoreSides;
@@ -39,7 +39,7 @@ fn sides_of(alloc: Global, core: &RingsCore, numbers: &[usize]) -> Result<Vec<Ri
 
 impl HistorySides {
     /// The core with its sides of these numbers, while it has done nothing yet. Side `n` is that of number
-    /// `numbers[n]` in the table.
+    /// `numbers[n]` in the table. Where there are no numbers, or no memory, the core is dropped.
     ///
     /// # Errors
     /// Out of memory.
@@ -59,13 +59,19 @@ impl HistorySides {
         Ok(HistorySides { lent: Some(lent) })
     }
 
-    /// All that the core did is shown by its sides.
-    pub fn shows(&self)
-        ensures one { AreOfOneCore (states_in self.now.lent) }
+    /// The core with its sides, where it has any.
+    pub fn into_lent(self) -> Option<LentSide>
+        ensures lent { result ≡ self.lent }
     {
-        if let Some(lent) = &self.lent {
-            lent.shows();
-        }
+        let HistorySides { lent } = self;
+        lent
+    }
+
+    /// The sides of a core that comes with them.
+    pub fn of_lent(lent: Option<LentSide>) -> HistorySides
+        ensures lent { result.lent ≡ lent }
+    {
+        HistorySides { lent }
     }
 
     /// The core again, where it has sides.
@@ -100,17 +106,21 @@ impl CoreSides for HistorySides {
 
     ghost returned = { λ s n b. record { lent = Some b } };
 
-    ghost puts = { HistoryPuts };
-
-    ghost takes = { HistoryTakes };
-
-    ghost front = { front_of };
+    ghost ways = { history_ways };
 
     #[inline(always)]
     fn count(&self) -> usize {
         match &self.lent {
             None => 0,
             Some(lent) => lent.count(),
+        }
+    }
+
+    // All that the core did is shown by its sides.
+    #[inline(always)]
+    fn shows(&self) {
+        if let Some(lent) = &self.lent {
+            lent.shows();
         }
     }
 

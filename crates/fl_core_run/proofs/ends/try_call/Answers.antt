@@ -4,7 +4,7 @@ use Rattle.fl_endpoint.specs.View.{with_parts}
 use Rattle.fl_value_data.specs.Value.{call_of}
 use Rattle.fl_core.specs.BoardView.{TheBoard}
 use Rattle.fl_core.specs.BoardEvents.{Holds}
-use Rattle.fl_core_run.specs.Run.{ways, run_by}
+use Rattle.fl_core_run.specs.Run.{run_by}
 use Rattle.fl_core_run.specs.LogEntries.{NotesCalled}
 use Rattle.fl_core_run.specs.Steps.{CallsAt}
 use Rattle.fl_core_run.proofs.Refusing.{calls_nothing}
@@ -13,10 +13,10 @@ use Rattle.fl_core_run.proofs.ends.try_call.Goals as goal
 
 pub returns-then-is_busy : goal.returns-then-is_busy
 returns-then-is_busy g c = record {
-  calls = calls_nothing (ways g.S.CoreSides.puts g.S.CoreSides.takes g.S.CoreSides.front) c.args.name c.args.next.now (run_by g.S.CoreSides.states c.args.run.now) c.in-Some.e (with_parts c.end.result.now c.end.ensures.end.0.end.parts)
+  calls = calls_nothing g.S.CoreSides.ways c.args.name c.args.next.now (run_by g.S.CoreSides.states c.args.run.now) c.in-Some.e (with_parts c.end.result.now c.end.ensures.end.0.end.parts)
       (sym c.place.ensures.place ∙ c.in-Some.is)
       (subst (λ (b : TheBoard). Holds b c.in-Some.e (λ seat. with_parts c.end.result.now c.end.ensures.end.0.end.parts ≡ seat.end)) c.board.ensures.board (c.end.ensures.end.0, c.end.ensures.end.1, sym c.end.ensures.end.2))
-      (sym c.is_busy.ensures.busy ∙ c.if-is_busy.true) c.law_sound.ensures.sound (c.law_sound_at.ensures.sound c.args.name (sym c.in-Some.ensures.place));
+      (sym c.is_busy.ensures.busy ∙ c.if-is_busy.true) c.law_sound.ensures.sound c.law_sound.ensures.whole (c.law_sound_at.ensures.sound c.args.name (sym c.in-Some.ensures.place));
   place = record { is = sym c.in-Some.ensures.place; within = c.in-Some.ensures.within };
   kept = tt;
   accepts = tt;
@@ -45,15 +45,15 @@ pub advance-requires : goal.advance-requires
 advance-requires g c = record { left = c.requires.left }
 
 pub returns-in-None-clause-calls : goal.returns-in-None-clause-calls
-returns-in-None-clause-calls g c = subst (λ (o : Option ℕ). CallsAt (ways g.S.CoreSides.puts g.S.CoreSides.takes g.S.CoreSides.front) c.args.name c.args.next.now o (run_by g.S.CoreSides.states c.args.run.now) (run_by g.S.CoreSides.states c.args.run.now)) c.in-None.ensures.place refl
+returns-in-None-clause-calls g c = subst (λ (o : Option ℕ). CallsAt g.S.CoreSides.ways c.args.name c.args.next.now o (run_by g.S.CoreSides.states c.args.run.now) (run_by g.S.CoreSides.states c.args.run.now)) c.in-None.ensures.place refl
 
 pub returns-in-None-clause-place : goal.returns-in-None-clause-place
 returns-in-None-clause-place g c = record { is = sym c.in-None.ensures.place; within = tt }
 
 pub returns-in-Ok-clause-calls : goal.returns-in-Ok-clause-calls
 returns-in-Ok-clause-calls g c =
-    called (ways g.S.CoreSides.puts g.S.CoreSides.takes g.S.CoreSides.front) c.args.name (run_by g.S.CoreSides.states c.args.run.now) (run_by g.S.CoreSides.states c.advance.new.run) c.in-Some.e c.call-answer.new.self
-    c.call-answer.result c.in-Some.ensures.place c.law_sound.ensures.sound (c.law_sound_at.ensures.sound c.args.name (sym c.in-Some.ensures.place))
+    called g.S.CoreSides.ways c.args.name (run_by g.S.CoreSides.states c.args.run.now) (run_by g.S.CoreSides.states c.advance.new.run) c.in-Some.e c.call-answer.new.self
+    c.call-answer.result c.in-Some.ensures.place c.law_sound.ensures.sound c.law_sound.ensures.whole (c.law_sound_at.ensures.sound c.args.name (sym c.in-Some.ensures.place))
     c.args.next.now (lent c.args.run.now.core c.call-answer.new.self c.in-Some.e (call_of c.lend-call.result.now) (call_of c.args.next.now) c.call-answer.result c.lend-call.ensures.same c.call-answer.ensures.calls) (sym c.is_memory.ensures.memory ∙ c.if-is_memory.false)
     (subst (λ (a : Result (Unit {0}) EndFault). NotesCalled c.args.name a (record (run_by g.S.CoreSides.states c.args.run.now) { core = c.call-answer.new.self }) (run_by g.S.CoreSides.states c.advance.new.run))
     (sym c.in-Ok.is) (c.advance.ensures.advanced c.args.name c.requires.found))
@@ -67,8 +67,8 @@ returns-in-Ok-clause-place g c =
 
 pub returns-in-Err-clause-calls : goal.returns-in-Err-clause-calls
 returns-in-Err-clause-calls g c =
-    called (ways g.S.CoreSides.puts g.S.CoreSides.takes g.S.CoreSides.front) c.args.name (run_by g.S.CoreSides.states c.args.run.now) _ c.in-Some.e c.call-answer.new.self
-    c.call-answer.result c.in-Some.ensures.place c.law_sound.ensures.sound (c.law_sound_at.ensures.sound c.args.name (sym c.in-Some.ensures.place))
+    called g.S.CoreSides.ways c.args.name (run_by g.S.CoreSides.states c.args.run.now) _ c.in-Some.e c.call-answer.new.self
+    c.call-answer.result c.in-Some.ensures.place c.law_sound.ensures.sound c.law_sound.ensures.whole (c.law_sound_at.ensures.sound c.args.name (sym c.in-Some.ensures.place))
     c.args.next.now (lent c.args.run.now.core c.call-answer.new.self c.in-Some.e (call_of c.lend-call.result.now) (call_of c.args.next.now) c.call-answer.result c.lend-call.ensures.same c.call-answer.ensures.calls) (sym c.is_memory.ensures.memory ∙ c.if-is_memory.false)
     (subst (λ (a : Result (Unit {0}) EndFault). NotesCalled c.args.name a (record (run_by g.S.CoreSides.states c.args.run.now) { core = c.call-answer.new.self })
     (record (run_by g.S.CoreSides.states c.args.run.now) { core = c.call-answer.new.self })) (sym c.in-Err.is) refl)

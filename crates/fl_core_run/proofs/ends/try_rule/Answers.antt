@@ -1,5 +1,5 @@
 use Rattle.std.proofs.Common.{refl, sym, subst, ℕ, Option, Some}
-use Rattle.fl_core_run.specs.Run.{ways, run_by}
+use Rattle.fl_core_run.specs.Run.{run_by}
 use Rattle.fl_core_run.specs.Steps.{reply_rule, RulesAt}
 use Rattle.fl_core_run.proofs.Calling.{ruled, placed_still, placed_then}
 use Rattle.fl_core_run.proofs.ends.try_rule.Goals as goal
@@ -15,14 +15,14 @@ advance-requires g c = record { left = c.requires.left }
 
 pub returns-in-None : goal.returns-in-None
 returns-in-None g c = record {
-  rules = subst (λ (o : Option ℕ). RulesAt (ways g.S.CoreSides.puts g.S.CoreSides.takes g.S.CoreSides.front) (reply_rule c.args.name c.args.msg c.args.reply) o (run_by g.S.CoreSides.states c.args.run.now) (run_by g.S.CoreSides.states c.args.run.now)) c.in-None.ensures.place refl;
+  rules = subst (λ (o : Option ℕ). RulesAt g.S.CoreSides.ways (reply_rule c.args.name c.args.msg c.args.reply) o (run_by g.S.CoreSides.states c.args.run.now) (run_by g.S.CoreSides.states c.args.run.now)) c.in-None.ensures.place refl;
   place = record { is = sym c.in-None.ensures.place; within = tt };
 }
 
 pub returns-in-Some : goal.returns-in-Some
 returns-in-Some g c = record {
-  rules = ruled (ways g.S.CoreSides.puts g.S.CoreSides.takes g.S.CoreSides.front) c.args.name (run_by g.S.CoreSides.states c.args.run.now) (run_by g.S.CoreSides.states c.advance.new.run) c.in-Some.e c.reply_rule.new.self
-      c.reply_rule.result c.in-Some.ensures.place c.law_sound.ensures.sound (c.law_sound_at.ensures.sound c.args.name (sym c.in-Some.ensures.place)) c.args.msg c.args.reply
+  rules = ruled g.S.CoreSides.ways c.args.name (run_by g.S.CoreSides.states c.args.run.now) (run_by g.S.CoreSides.states c.advance.new.run) c.in-Some.e c.reply_rule.new.self
+      c.reply_rule.result c.in-Some.ensures.place c.law_sound.ensures.sound c.law_sound.ensures.whole (c.law_sound_at.ensures.sound c.args.name (sym c.in-Some.ensures.place)) c.args.msg c.args.reply
       c.reply_rule.ensures.sets (c.advance.ensures.advanced c.args.name c.requires.found);
   place = placed_then (record (run_by g.S.CoreSides.states c.args.run.now) { core = c.reply_rule.new.self }) (run_by g.S.CoreSides.states c.advance.new.run) c.args.name (Some c.in-Some.e)
       (c.advance.ensures.advanced c.args.name c.requires.found)

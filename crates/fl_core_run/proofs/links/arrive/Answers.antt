@@ -19,6 +19,6 @@ arrive-requires-clause-call g c = c.requires.call
 pub returns : goal.returns
 returns g c = record {
   arrived = on_ring (run_by g.S.CoreSides.states c.args.run.now) c.args.n (g.S.CoreSides.states c.arrive.new.sides)
-      (λ k p k2 q. ArrivesAt g.S.CoreSides.takes (inbound c.args.link.0 c.args.frag.now c.args.end) (at_side k p) c.arrive.result (at_side k2 q))
+      (λ k p k2 q. ArrivesAt g.S.CoreSides.ways.takes (inbound c.args.link.0 c.args.frag.now c.args.end) (at_side k p) c.arrive.result (at_side k2 q))
       c.arrive.new.core c.arrive.ensures.arrives;
 }

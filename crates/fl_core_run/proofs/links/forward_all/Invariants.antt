@@ -1,7 +1,7 @@
-use Rattle.fl_core_run.specs.Run.{ways, run_by}
+use Rattle.fl_core_run.specs.Run.{run_by}
 use Rattle.fl_core_run.specs.Steps.{Forwards}
 use Rattle.fl_core_run.specs.Turn.{Swept, At}
 use Rattle.fl_core_run.proofs.links.forward_all.Given as goal
 
 abbrev pub invariant-loop-k : goal.invariant-loop-k
-invariant-loop-k g l = Swept (At l.links (Forwards (ways g.S.CoreSides.puts g.S.CoreSides.takes g.S.CoreSides.front))) l.k (run_by g.S.CoreSides.states l.initial.run) (run_by g.S.CoreSides.states l.run)
+invariant-loop-k g l = Swept (At l.links (Forwards g.S.CoreSides.ways)) l.k (run_by g.S.CoreSides.states l.initial.run) (run_by g.S.CoreSides.states l.run)

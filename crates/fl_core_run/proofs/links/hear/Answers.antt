@@ -19,7 +19,7 @@ pub returns-then-is_memory-clause-kept : goal.returns-then-is_memory-clause-kept
 returns-then-is_memory-clause-kept g c =
     let takes = c.hear-answer.ensures.takes in
     all_left (run_by g.S.CoreSides.states c.args.run.now) c.args.n _ _ takes c.hear-answer.new.core
-    (unheard g.S.CoreSides.takes _ c.args.link c.args.frag.now c.args.run.now.core c.hear-answer.new.core takes.before takes.after c.hear-answer.result
+    (unheard g.S.CoreSides.ways.takes _ c.args.link c.args.frag.now c.args.run.now.core c.hear-answer.new.core takes.before takes.after c.hear-answer.result
     (sym c.is_memory.ensures.memory ∙ c.if-is_memory.true) c.hear-answer.ensures.hears takes.event)
 
 pub returns-then-is_memory-clause-last : goal.returns-then-is_memory-clause-last

@@ -1,5 +1,5 @@
 use Rattle.std.proofs.Common.{refl, length}
-use Rattle.fl_core_run.specs.Run.{ways, run_by}
+use Rattle.fl_core_run.specs.Run.{run_by}
 use Rattle.fl_core_run.specs.Steps.{Says}
 use Rattle.fl_core_run.specs.Turn.{At}
 use Rattle.fl_core_run.proofs.Rows.{for_one_more, up_to}
@@ -9,11 +9,11 @@ pub loop-k-init : goal.loop-k-init
 loop-k-init g c = refl
 
 pub loop-k-preserved : goal.loop-k-preserved
-loop-k-preserved g c = for_one_more c.args.links.now c.loop-k.k _ (run_by g.S.CoreSides.states c.args.run.now) (run_by g.S.CoreSides.states c.loop-k.run) (run_by g.S.CoreSides.states c.say.new.run) c.loop-k-test.true (Says (ways g.S.CoreSides.puts g.S.CoreSides.takes g.S.CoreSides.front))
+loop-k-preserved g c = for_one_more c.args.links.now c.loop-k.k _ (run_by g.S.CoreSides.states c.args.run.now) (run_by g.S.CoreSides.states c.loop-k.run) (run_by g.S.CoreSides.states c.say.new.run) c.loop-k-test.true (Says g.S.CoreSides.ways)
     c.loop-k.invariant c.say.ensures.says
 
 pub returns : goal.returns
 returns g c = record {
-  says = up_to (At c.args.links.now (Says (ways g.S.CoreSides.puts g.S.CoreSides.takes g.S.CoreSides.front))) c.loop-k.k (length c.args.links.now) (run_by g.S.CoreSides.states c.args.run.now) (run_by g.S.CoreSides.states c.loop-k.run)
+  says = up_to (At c.args.links.now (Says g.S.CoreSides.ways)) c.loop-k.k (length c.args.links.now) (run_by g.S.CoreSides.states c.args.run.now) (run_by g.S.CoreSides.states c.loop-k.run)
       c.loop-k.invariant c.loop-k.auto.k-end c.loop-k-test.false;
 }

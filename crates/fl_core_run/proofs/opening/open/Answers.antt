@@ -1,7 +1,7 @@
 use Rattle.std.proofs.Common.{refl, sym, ◌∙◌, subst, Bool}
 use Rattle.std.proofs.lemmas.Result.{IfOk-from_err}
 use Rattle.fl_core.specs.Making.{asked}
-use Rattle.fl_core_run.specs.Run.{ways, run_by}
+use Rattle.fl_core_run.specs.Run.{run_by}
 use Rattle.fl_core_run.specs.Steps.{may_ask, OpensIf}
 use Rattle.fl_core_run.proofs.Asking.{may, refused_before, asked_left}
 use Rattle.fl_core_run.proofs.Stopping.{on_err}
@@ -9,7 +9,7 @@ use Rattle.fl_core_run.proofs.opening.open.Goals as goal
 
 pub returns-then-not-may_ask-clause-opens : goal.returns-then-not-may_ask-clause-opens
 returns-then-not-may_ask-clause-opens g c = λ name at.
-    subst (λ (b : Bool). OpensIf (ways g.S.CoreSides.puts g.S.CoreSides.takes g.S.CoreSides.front) b name c.args.request.now (run_by g.S.CoreSides.states c.args.run.now) (run_by g.S.CoreSides.states c.args.run.now)) c.if-not-may_ask.ensures.may refl
+    subst (λ (b : Bool). OpensIf g.S.CoreSides.ways b name c.args.request.now (run_by g.S.CoreSides.states c.args.run.now) (run_by g.S.CoreSides.states c.args.run.now)) c.if-not-may_ask.ensures.may refl
 
 pub may_open-requires : goal.may_open-requires
 may_open-requires g c = (may (run_by g.S.CoreSides.states c.args.run.now) c.args.request.now c.if-not-may_ask.ensures.may).dispatcher
@@ -19,10 +19,10 @@ note-requires g c = record { left = c.requires.left }
 
 pub returns-in-Err-clause-opens : goal.returns-in-Err-clause-opens
 returns-in-Err-clause-opens g c =
-    refused_before (ways g.S.CoreSides.puts g.S.CoreSides.takes g.S.CoreSides.front) (run_by g.S.CoreSides.states c.args.run.now) (run_by g.S.CoreSides.states c.note.new.run) c.args.progress c.args.request.now c.in-Err.fault
+    refused_before g.S.CoreSides.ways (run_by g.S.CoreSides.states c.args.run.now) (run_by g.S.CoreSides.states c.note.new.run) c.args.progress c.args.request.now c.in-Err.fault
     (may_ask (run_by g.S.CoreSides.states c.args.run.now) c.args.request.now) c.if-not-may_ask.ensures.may
     (may (run_by g.S.CoreSides.states c.args.run.now) c.args.request.now c.if-not-may_ask.ensures.may).program c.in-Err.ensures.refused c.note.ensures.notes
-    c.law_sound.ensures.sound
+    c.law_sound.ensures.sound c.law_sound.ensures.whole
 
 pub copy-requires : goal.copy-requires
 copy-requires g c = (may (run_by g.S.CoreSides.states c.args.run.now) c.args.request.now c.if-not-may_ask.ensures.may).program
@@ -50,7 +50,7 @@ pub note-requires-2 : goal.note-requires-2
 note-requires-2 g c = record { left = c.requires.left }
 
 pub returns-clause-opens : goal.returns-clause-opens
-returns-clause-opens g c = λ name at. subst (λ (b : Bool). OpensIf (ways g.S.CoreSides.puts g.S.CoreSides.takes g.S.CoreSides.front) b name c.args.request.now (run_by g.S.CoreSides.states c.args.run.now) (run_by g.S.CoreSides.states c.note-2.new.run)) c.if-not-may_ask.ensures.may (
+returns-clause-opens g c = λ name at. subst (λ (b : Bool). OpensIf g.S.CoreSides.ways b name c.args.request.now (run_by g.S.CoreSides.states c.args.run.now) (run_by g.S.CoreSides.states c.note-2.new.run)) c.if-not-may_ask.ensures.may (
   c.open-answer.result,
   (
     record (run_by g.S.CoreSides.states c.args.run.now) { core = c.open-answer.new.self },
@@ -61,6 +61,7 @@ returns-clause-opens g c = λ name at. subst (λ (b : Bool). OpensIf (ways g.S.C
     c.note-2.ensures.notes name at,
     c.law_sound.ensures.sound,
     tt,
+    c.law_sound.ensures.whole,
   ),
   sym c.is_memory.ensures.memory ∙ c.if-is_memory.false,
 )

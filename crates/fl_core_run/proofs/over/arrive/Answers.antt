@@ -16,5 +16,5 @@ pub returns : goal.returns
 returns g c = record {
   arrives = over_side g.S.CoreSides.states g.S.CoreSides.state_of g.S.CoreSides.rest_of g.S.CoreSides.lends g.S.CoreSides.returned
       g.met.S.CoreSides.stands g.met.S.CoreSides.gives_back c.args.sides.now c.args.n _ _ _ c.side.ensures.lent
-      (arrived_so _ g.S.CoreSides.takes g.S.CoreSides.state_of g.S.CoreSides.rest_of g.met.S.CoreSides.takes_are (inbound c.args.link.0 c.args.frag.now c.args.end) c.args.core.now _ c.arrive.result c.arrive.new.self _ c.arrive.ensures.arrives);
+      (arrived_so _ g.S.CoreSides.ways.takes g.S.CoreSides.state_of g.S.CoreSides.rest_of g.met.S.CoreSides.takes_are (inbound c.args.link.0 c.args.frag.now c.args.end) c.args.core.now _ c.arrive.result c.arrive.new.self _ c.arrive.ensures.arrives);
 }

@@ -11,4 +11,4 @@ hear-requires-clause-seen g c = g.met.S.CoreSides.front_is c.side.result.now ∙
 pub returns-clause-takes : goal.returns-clause-takes
 returns-clause-takes g c = over_side g.S.CoreSides.states g.S.CoreSides.state_of g.S.CoreSides.rest_of g.S.CoreSides.lends g.S.CoreSides.returned
     g.met.S.CoreSides.stands g.met.S.CoreSides.gives_back c.args.sides.now c.args.n _ _ _ c.side.ensures.lent
-    (heard_so _ g.S.CoreSides.takes g.S.CoreSides.state_of g.S.CoreSides.rest_of g.met.S.CoreSides.takes_are c.args.frag.now _ c.hear.result _ c.hear.ensures.takes)
+    (heard_so _ g.S.CoreSides.ways.takes g.S.CoreSides.state_of g.S.CoreSides.rest_of g.met.S.CoreSides.takes_are c.args.frag.now _ c.hear.result _ c.hear.ensures.takes)

@@ -1,6 +1,6 @@
 use Rattle.std.proofs.Common.{refl, sym, subst, ◌∙◌, arith}
 use Rattle.fl_cores_table.specs.Seats.{TheCoresSeat}
-use Rattle.fl_core_run.specs.Run.{ways, run_by}
+use Rattle.fl_core_run.specs.Run.{run_by}
 use Rattle.fl_core_run.specs.OpeningStatus.{AreWords}
 use Rattle.fl_core_run.specs.Ran.{run_seat_of, task, moment}
 use Rattle.fl_core_run.proofs.Stock.{seen_words, seen_quiet, quiet_then}
@@ -10,7 +10,7 @@ use Rattle.fl_core_run.proofs.run.counted_turns.Goals as goal
 
 pub loop-turns-preserved : goal.loop-turns-preserved
 loop-turns-preserved g c =
-    let w = ways g.S.CoreSides.puts g.S.CoreSides.takes g.S.CoreSides.front in
+    let w = g.S.CoreSides.ways in
     let t = task c.args.plan.now c.args.jobs.now c.args.limit in
     let first = moment (run_by g.S.CoreSides.states c.args.run.now) (run_seat_of c.args.run_seat.now) in
     let before = moment (run_by g.S.CoreSides.states c.loop-turns.run) (run_seat_of c.loop-turns.run_seat) in
@@ -27,7 +27,7 @@ loop-turns-preserved g c =
 
 pub returns-then-take_stock-clause-counted : goal.returns-then-take_stock-clause-counted
 returns-then-take_stock-clause-counted g c =
-    counted_finished (ways g.S.CoreSides.puts g.S.CoreSides.takes g.S.CoreSides.front) (task c.args.plan.now c.args.jobs.now c.args.limit)
+    counted_finished g.S.CoreSides.ways (task c.args.plan.now c.args.jobs.now c.args.limit)
     (moment (run_by g.S.CoreSides.states c.args.run.now) (run_seat_of c.args.run_seat.now)) (run_by g.S.CoreSides.states c.loop-turns.run) (run_seat_of c.loop-turns.run_seat) c.loop-turns.turns
     c.take_stock.new.run_seat.words.items c.take_stock.new.run_seat.seat c.loop-turns.invariant.0 c.loop-turns.invariant.4 c.take_stock.ensures.exchanges
     (sym c.take_stock.ensures.finished ∙ c.if-take_stock.true) (quiet_then _ _ _ c.loop-turns.invariant.3 c.take_stock.ensures.seat)
@@ -35,7 +35,7 @@ returns-then-take_stock-clause-counted g c =
 pub returns-then-load_ended-ge-STOP-clause-counted : goal.returns-then-load_ended-ge-STOP-clause-counted
 returns-then-load_ended-ge-STOP-clause-counted g c =
     let stop = c.if-load_ended-ge-STOP.true in
-    counted_told (ways g.S.CoreSides.puts g.S.CoreSides.takes g.S.CoreSides.front) (task c.args.plan.now c.args.jobs.now c.args.limit)
+    counted_told g.S.CoreSides.ways (task c.args.plan.now c.args.jobs.now c.args.limit)
     (moment (run_by g.S.CoreSides.states c.args.run.now) (run_seat_of c.args.run_seat.now)) (run_by g.S.CoreSides.states c.loop-turns.run) (run_seat_of c.loop-turns.run_seat) c.loop-turns.turns
     c.take_stock.new.run_seat.words.items c.take_stock.new.run_seat.seat c.loop-turns.invariant.0 c.loop-turns.invariant.4 c.take_stock.ensures.exchanges
     c.load_ended.new.self c.load_ended.result (sym c.take_stock.ensures.finished ∙ c.if-take_stock.false) (omega (arith, stop)) c.load_ended.ensures.seen
@@ -43,7 +43,7 @@ returns-then-load_ended-ge-STOP-clause-counted g c =
 
 pub returns-then-take_stock-2-clause-counted : goal.returns-then-take_stock-2-clause-counted
 returns-then-take_stock-2-clause-counted g c =
-    let w = ways g.S.CoreSides.puts g.S.CoreSides.takes g.S.CoreSides.front in
+    let w = g.S.CoreSides.ways in
     let t = task c.args.plan.now c.args.jobs.now c.args.limit in
     let first = moment (run_by g.S.CoreSides.states c.args.run.now) (run_seat_of c.args.run_seat.now) in
     let past = c.loop-turns-test.false in
@@ -53,7 +53,7 @@ returns-then-take_stock-2-clause-counted g c =
 
 pub returns-clause-counted : goal.returns-clause-counted
 returns-clause-counted g c =
-    let w = ways g.S.CoreSides.puts g.S.CoreSides.takes g.S.CoreSides.front in
+    let w = g.S.CoreSides.ways in
     let t = task c.args.plan.now c.args.jobs.now c.args.limit in
     let first = moment (run_by g.S.CoreSides.states c.args.run.now) (run_seat_of c.args.run_seat.now) in
     let past = c.loop-turns-test.false in
@@ -64,7 +64,7 @@ returns-clause-counted g c =
 pub returns-in_err-turn-clause-part : goal.returns-in_err-turn-clause-part
 returns-in_err-turn-clause-part g c =
     on_err c.from_residual.result (
-    stopped_counting (ways g.S.CoreSides.puts g.S.CoreSides.takes g.S.CoreSides.front) (task c.args.plan.now c.args.jobs.now c.args.limit) c.loop-turns.turns
+    stopped_counting g.S.CoreSides.ways (task c.args.plan.now c.args.jobs.now c.args.limit) c.loop-turns.turns
     (moment (run_by g.S.CoreSides.states c.args.run.now) (run_seat_of c.args.run_seat.now)) (moment (run_by g.S.CoreSides.states c.loop-turns.run) (run_seat_of c.loop-turns.run_seat)) (run_by g.S.CoreSides.states c.turn.new.self)
     c.loop-turns.invariant.0 c.in_err-turn.ensures.part
     )

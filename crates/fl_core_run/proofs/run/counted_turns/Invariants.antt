@@ -1,5 +1,5 @@
 use Rattle.std.proofs.Common.{◌≡◌, ◌≤◌, length}
-use Rattle.fl_core_run.specs.Run.{ways, run_by}
+use Rattle.fl_core_run.specs.Run.{run_by}
 use Rattle.fl_core_run.specs.Turn.{Swept}
 use Rattle.fl_core_run.specs.OpeningStatus.{AreWords, SaidNothing}
 use Rattle.fl_core_run.specs.Ran.{run_seat_of, task, moment, CountedTurn}
@@ -7,7 +7,7 @@ use Rattle.fl_core_run.proofs.run.counted_turns.Given as goal
 
 abbrev pub invariant-loop-turns : goal.invariant-loop-turns
 invariant-loop-turns g l =
-    Swept (λ n. CountedTurn (ways g.S.CoreSides.puts g.S.CoreSides.takes g.S.CoreSides.front) (task l.plan l.jobs l.limit)) l.turns
+    Swept (λ n. CountedTurn g.S.CoreSides.ways (task l.plan l.jobs l.limit)) l.turns
     (moment (run_by g.S.CoreSides.states l.initial.run) (run_seat_of l.initial.run_seat)) (moment (run_by g.S.CoreSides.states l.run) (run_seat_of l.run_seat))
     × (length l.run_seat.words.items ≡ length l.plan.ends.items) × AreWords l.run_seat.words.items l.run_seat.seat.knows
     × SaidNothing l.initial.run_seat.seat l.run_seat.seat × (l.turns ≤ l.limit)

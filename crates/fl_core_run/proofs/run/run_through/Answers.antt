@@ -1,7 +1,7 @@
 use Rattle.std.proofs.Common.{◌∙◌, ap}
 use Rattle.std.proofs.lemmas.Result.{IfOk-from_err}
 use Rattle.fl_cores_table.specs.Seats.{TheCoresSeat}
-use Rattle.fl_core_run.specs.Run.{ways, run_by}
+use Rattle.fl_core_run.specs.Run.{run_by}
 use Rattle.fl_core_run.specs.Ran.{run_seat_of, task, moment}
 use Rattle.fl_core_run.proofs.Counting.{ran_told, ran_unfinished, ran_finished}
 use Rattle.fl_core_run.proofs.Stock.{may_finish}
@@ -10,20 +10,20 @@ use Rattle.fl_core_run.proofs.run.run_through.Goals as goal
 
 pub returns-in-Told-clause-ran : goal.returns-in-Told-clause-ran
 returns-in-Told-clause-ran g c =
-    ran_told (ways g.S.CoreSides.puts g.S.CoreSides.takes g.S.CoreSides.front) (task c.args.plan.now c.args.jobs.now c.args.limit)
+    ran_told g.S.CoreSides.ways (task c.args.plan.now c.args.jobs.now c.args.limit)
     (moment (run_by g.S.CoreSides.states c.args.run.now) (run_seat_of c.args.run_seat.now)) (moment (run_by g.S.CoreSides.states c.counted_turns.new.run) (run_seat_of c.counted_turns.new.run_seat))
     c.in_ok-part.part c.in_ok-part.ensures.counted c.in-Told.is
 
 pub returns-in-Unfinished-clause-ran : goal.returns-in-Unfinished-clause-ran
 returns-in-Unfinished-clause-ran g c =
-    ran_unfinished (ways g.S.CoreSides.puts g.S.CoreSides.takes g.S.CoreSides.front) (task c.args.plan.now c.args.jobs.now c.args.limit)
+    ran_unfinished g.S.CoreSides.ways (task c.args.plan.now c.args.jobs.now c.args.limit)
     (moment (run_by g.S.CoreSides.states c.args.run.now) (run_seat_of c.args.run_seat.now)) (moment (run_by g.S.CoreSides.states c.counted_turns.new.run) (run_seat_of c.counted_turns.new.run_seat))
     c.in_ok-part.part c.finish.new.self c.in_ok-part.ensures.counted c.in-Unfinished.is c.finish.ensures.told
 
 pub returns-in_err-idle_turns-in-Finished-clause-part : goal.returns-in_err-idle_turns-in-Finished-clause-part
 returns-in_err-idle_turns-in-Finished-clause-part g c =
     on_err c.from_residual-in_err-idle_turns-in-Finished.result (
-    stopped_behind (ways g.S.CoreSides.puts g.S.CoreSides.takes g.S.CoreSides.front) (task c.args.plan.now c.args.jobs.now c.args.limit)
+    stopped_behind g.S.CoreSides.ways (task c.args.plan.now c.args.jobs.now c.args.limit)
     (moment (run_by g.S.CoreSides.states c.args.run.now) (run_seat_of c.args.run_seat.now)) (moment (run_by g.S.CoreSides.states c.counted_turns.new.run) (run_seat_of c.counted_turns.new.run_seat))
     c.in_ok-part.part (run_by g.S.CoreSides.states c.idle_turns.new.run) c.in_ok-part.ensures.counted c.in_err-idle_turns-in-Finished.ensures.part
     )
@@ -68,7 +68,7 @@ returns-in-Unfinished-clause-seats g c = ap (λ (x : TheCoresSeat). x.knows.seat
 
 pub returns-in_ok-idle_turns-in-Finished-clause-ran : goal.returns-in_ok-idle_turns-in-Finished-clause-ran
 returns-in_ok-idle_turns-in-Finished-clause-ran g c =
-    ran_finished (ways g.S.CoreSides.puts g.S.CoreSides.takes g.S.CoreSides.front) (task c.args.plan.now c.args.jobs.now c.args.limit)
+    ran_finished g.S.CoreSides.ways (task c.args.plan.now c.args.jobs.now c.args.limit)
     (moment (run_by g.S.CoreSides.states c.args.run.now) (run_seat_of c.args.run_seat.now)) (moment (run_by g.S.CoreSides.states c.counted_turns.new.run) (run_seat_of c.counted_turns.new.run_seat))
     c.in_ok-part.part c.finish-in-Finished.new.self c.in_ok-part.ensures.counted (run_by g.S.CoreSides.states c.idle_turns.new.run) c.idle_turns.new.run_seat.words.items
     c.idle_turns.new.run_seat.seat c.in-Finished.is c.finish-in-Finished.ensures.told c.in_ok-idle_turns-in-Finished.ensures.turned c.idle_turns.ensures.seat
