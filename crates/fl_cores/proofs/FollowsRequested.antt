@@ -57,7 +57,7 @@ record Found (u t : TheRun TheSide) (n : ℕ) (l : LinkId) (frag : Frag) : Type 
 module _ (look : LogsLook shared_ways) (law : SideLaw) (jobs : List CoreJob) where
   here : (u m t : TheRun TheSide) (rest : List LogEntry) (n : ℕ) (l : LinkId) (frag : Frag) → Happens shared_ways (heard n l frag (Ok answer.Done)) u m
       → InPlace jobs u (heard n l frag (Ok answer.Done)) → Goes shared_ways jobs m rest t → Found u t n l frag
-  here u m t rest n l frag (mid, on, notes, sound, soundly) place goes =
+  here u m t rest n l frag (mid, on, notes, sound, soundly, whole) place goes =
       let ((msg, is, all), takes) = on.event in
       let rings : m.rings ≡ slice_set u.rings n on.after
       = rings_aside mid m (heard n l frag (Ok answer.Done)) notes ∙ ap (λ (x : TheRun TheSide). x.rings) on.rest in
@@ -77,7 +77,7 @@ module _ (look : LogsLook shared_ways) (law : SideLaw) (jobs : List CoreJob) whe
       }
 
   earlier : (u m t : TheRun TheSide) (log_entry : LogEntry) (n : ℕ) (l : LinkId) (frag : Frag) → Happens shared_ways log_entry u m → Found m t n l frag → Found u t n l frag
-  earlier u m t log_entry n l frag (mid, does, notes, sound, soundly) x =
+  earlier u m t log_entry n l frag (mid, does, notes, sound, soundly, whole) x =
       let core : m.core ≡ mid.core = core_aside mid m log_entry notes in
       let grows = does_grow shared_ways log_entry u mid does in
       record {

@@ -11,7 +11,8 @@
 //! and what is told of an end is what the machine's end accepted, and what came there (`specs/Follows.antt`).
 //!
 //! Behind each report stand cores as `fl_cores_laws` speaks of them (`specs/Outcomes.antt`), so it follows by
-//! its laws from what a run tells (`specs/Promised.antt`).
+//! its laws from what a run tells (`specs/Promised.antt`). A run tells more: one order has all that its cores did
+//! by sides of rings (`AtTable.antt` of `fl_cores_parts`).
 //!
 //! - `run.rt`: a set-up with jobs run; `text.rt`: a cores file run; `fault.rt`: why there is no report
 //! - `wired.rt`: the cores of a file, wired once more without threads

@@ -5,31 +5,27 @@ use Rattle.std.proofs.Crossing.{crosses}
 use Rattle.fl_core_run.proofs.plan.TurnPlan.TheSendSync as plan
 use Rattle.fl_core_run.proofs.run_seat.RunSeat.TheSendSync as run_seat
 use Rattle.fl_core_run.proofs.run.Part.TheSendSync as part
-use Rattle.fl_cores_shares.proofs.recorded_side.SideRecord.TheSendSync as side_record
-use Rattle.fl_cores_shares.specs.contracts.recorded_side.RecordedSide
+use Rattle.fl_cores_shares.proofs.side_record.SideRecord.TheSendSync as side_record
 use Rattle.fl_compact_calls.specs.contracts.number_call.NumberCall
 use Rattle.fl_compile.specs.contracts.program.Program
 use Rattle.fl_link.specs.contracts.queue.QueueLink
 use Rattle.fl_nameserv.specs.contracts.names.Names
 use Rattle.fl_core.specs.contracts.one_core.Core
-use Rattle.fl_ring.specs.contracts.shared.duo_sides.SharedSide
+use Rattle.fl_history_sides.specs.contracts.sides.HistorySides
 use Rattle.fl_core_run.specs.contracts.end_progress.EndProgress
 use Rattle.fl_core_run.specs.contracts.running.RunningCore as Running
-use Rattle.fl_cores_fork.specs.Rows.{sides_row}
 use Rattle.fl_cores_fork.specs.contracts.core_thread.CoreThread
 use Rattle.fl_cores_fork.specs.contracts.core_thread.FinishedCore as Done
-use Rattle.fl_cores_fork.specs.contracts.noting.NotingRoom
-use Rattle.fl_cores_fork.specs.contracts.noting.RoomBehind
 
 -- a core with its sides, queues and ends' progress
-pub running_sends : IsSend Core.the_row → IsSend SharedSide.the_row → IsSend QueueLink.the_row → IsSend EndProgress.the_row → IsSend Names.the_row
-    → IsSend Program.the_row → IsSend NumberCall.the_row → IsSend (Running.the_field sides_row).row
-running_sends core side queue progress names program number_call = struct_send (shape (Running.the_type sides_row)) (
+pub running_sends : IsSend Core.the_row → IsSend HistorySides.the_row → IsSend QueueLink.the_row → IsSend EndProgress.the_row → IsSend Names.the_row
+    → IsSend Program.the_row → IsSend NumberCall.the_row → IsSend (Running.the_field HistorySides.the_row).row
+running_sends core side queue progress names program number_call = struct_send (shape (Running.the_type HistorySides.the_row)) (
   search (sendable, crosses) depth 20,
   (
     core,
     (
-      search (sendable, crosses, side) depth 40,
+      side,
       (
         search (sendable, crosses, queue) depth 40,
         (
@@ -48,33 +44,17 @@ running_sends core side queue progress names program number_call = struct_send (
 )
 
 -- the same in a box
-running_boxed : IsSend (Running.the_field sides_row).row → IsSend (Running.the_row sides_row)
-running_boxed running = recorded_send (Running.the_field sides_row).row _ _ (Running.the_type sides_row).to_one running
+running_boxed : IsSend (Running.the_field HistorySides.the_row).row → IsSend (Running.the_row HistorySides.the_row)
+running_boxed running = recorded_send (Running.the_field HistorySides.the_row).row _ _ (Running.the_type HistorySides.the_row).to_one running
 
-pub core_thread_field : IsSend (Running.the_field sides_row).row → IsSend (CoreThread.the_field).row
+pub core_thread_field : IsSend (Running.the_field HistorySides.the_row).row → IsSend (CoreThread.the_field).row
 core_thread_field running = struct_send (shape CoreThread.the_type) (let row = running_boxed running in search (sendable, crosses, row) depth 40, (plan.the_field_send, (run_seat.the_field_send, tt)))
 
-pub core_thread_sends : IsSend (Running.the_field sides_row).row → IsSend CoreThread.the_row
+pub core_thread_sends : IsSend (Running.the_field HistorySides.the_row).row → IsSend CoreThread.the_row
 core_thread_sends running = recorded_send (CoreThread.the_field).row _ _ (CoreThread.the_type).to_one (core_thread_field running)
 
-pub done_field : IsSend (Running.the_field sides_row).row → IsSend (Done.the_field).row
+pub done_field : IsSend (Running.the_field HistorySides.the_row).row → IsSend (Done.the_field).row
 done_field running = struct_send (shape Done.the_type) (core_thread_field running, (part.the_field_send, (search (sendable, crosses, side_record.the_send) depth 40, tt)))
 
-pub done_sends : IsSend (Running.the_field sides_row).row → IsSend Done.the_row
+pub done_sends : IsSend (Running.the_field HistorySides.the_row).row → IsSend Done.the_row
 done_sends running = recorded_send (Done.the_field).row _ _ (Done.the_type).to_one (done_field running)
-
--- room for a core's recorded run, and behind it
-room_behind_field : IsSend (Running.the_field sides_row).row → IsSend SharedSide.the_row → IsSend (RoomBehind.the_field).row
-room_behind_field running side = struct_send (shape RoomBehind.the_type) (
-  let row = running_boxed running in search (sendable, crosses, row) depth 40,
-  (search (sendable, crosses, side) depth 40, (search (sendable, crosses, side_record.the_send) depth 40, tt)),
-)
-
-room_field : IsSend (Running.the_field sides_row).row → IsSend SharedSide.the_row → IsSend RecordedSide.the_row → IsSend (NotingRoom.the_field).row
-room_field running side recorded = struct_send (shape NotingRoom.the_type) (
-  search (sendable, crosses, recorded) depth 40,
-  (search (sendable, crosses, side_record.the_send) depth 40, (room_behind_field running side, tt)),
-)
-
-pub room_sends : IsSend (Running.the_field sides_row).row → IsSend SharedSide.the_row → IsSend RecordedSide.the_row → IsSend NotingRoom.the_row
-room_sends running side recorded = recorded_send (NotingRoom.the_field).row _ _ (NotingRoom.the_type).to_one (room_field running side recorded)

@@ -5,7 +5,7 @@ use Rattle.fl_base.specs.declared.identity.EndId.{EndId}
 use Rattle.fl_base.specs.Given.{given}
 use Rattle.fl_value_data.specs.Value.{TheCall}
 use Rattle.fl_cores_table.specs.Seats.{TheCoresSeat}
-use Rattle.fl_ring.specs.SharedSides.{TheSide}
+use Rattle.fl_history_sides.specs.States.{TheHistorySide}
 use Rattle.fl_core.specs.View.{slot_of, client_of, server_of}
 use Rattle.fl_core_run.specs.EndProgress.{TheEndProgress}
 use Rattle.fl_cores_jobs.specs.State.{TheJoinedJobs}
@@ -15,13 +15,13 @@ use Rattle.fl_cores_file.specs.Reports.{both_of}
 use Rattle.fl_cores_jobs.specs.Joined.{core_at}
 use Rattle.fl_cores_fork.specs.declared.core_thread.FinishedCore.{FinishedCore}
 use Rattle.fl_cores_fork.specs.Tells.{both_at, handled_at, handled_by}
-use Rattle.fl_cores_fork.specs.Runs.{sides_left, TheFinishedCore, seats_left}
-use Rattle.fl_cores_fork.specs.CoreThreads.{outcome_of}
+use Rattle.fl_cores_fork.specs.Runs.{TheFinishedCore, seats_left}
+use Rattle.fl_cores_fork.specs.CoreThreads.{outcome_of, hand_left, hands_left}
 use Rattle.fl_cores_fork.specs.Taking.{KeepsFrom}
 use Rattle.fl_cores_fork.proofs.Lists.{both_more}
 
 keeps_one : (p : ℕ) (o : TheFinishedCore) → KeepsFrom p o o
-keeps_one p o = record { progresses = λ n _. refl; rings = refl; seat = refl }
+keeps_one p o = record { progresses = λ n _. refl; seat = refl }
 
 pub keeps_all : (p : ℕ) (os : List TheFinishedCore) → AllZip (KeepsFrom p) os os
 keeps_all p [] = tt
@@ -38,7 +38,6 @@ keeps_set p (suc n) (x ∷ ds) d d2 is keeps = (keeps_one p (outcome_of x), keep
 keeps_both : (p q : ℕ) (a b c : TheFinishedCore) → p ≤ q → KeepsFrom p a b → KeepsFrom q b c → KeepsFrom q a c
 keeps_both p q a b c less f g = record {
   progresses = λ n from. g.progresses n from ∙ f.progresses n (omega (arith, less, from));
-  rings = g.rings ∙ f.rings;
   seat = g.seat ∙ f.seat;
 }
 
@@ -77,12 +76,11 @@ same_seats p (a ∷ xs) [] all = absurd all
 same_seats p (a ∷ xs) (b ∷ ys) all =
     ap (λ (s : TheCoresSeat). s ∷ seats_left ys) all.0.seat ∙ ap (λ (ss : List TheCoresSeat). a.run_seat.seat ∷ ss) (same_seats p xs ys all.1)
 
-pub same_sides : (p : ℕ) (xs ys : List TheFinishedCore) → AllZip (KeepsFrom p) xs ys → sides_left ys ≡ sides_left xs
-same_sides p [] [] all = refl
-same_sides p [] (b ∷ ys) all = absurd all
-same_sides p (a ∷ xs) [] all = absurd all
-same_sides p (a ∷ xs) (b ∷ ys) all =
-    ap (λ (s : List TheSide). s ∷ sides_left ys) all.0.rings ∙ ap (λ (ss : List (List TheSide)). a.run.rings ∷ ss) (same_sides p xs ys all.1)
+-- the sides of all stay, where those of the one that changes do
+pub same_hands : (n : ℕ) (ds : List FinishedCore) (d d2 : FinishedCore) → d ≡ get_or ds n d → hand_left d2 ≡ hand_left d → hands_left (slice_set ds n d2) ≡ hands_left ds
+same_hands n [] d d2 is same = refl
+same_hands zero (x ∷ ds) d d2 is same = ap (λ (hand : List TheHistorySide). hand ∷ hands_left ds) (same ∙ ap hand_left is)
+same_hands (suc n) (x ∷ ds) d d2 is same = ap (λ (hands : List (List TheHistorySide)). hand_left x ∷ hands) (same_hands n ds d d2 is same)
 
 -- one binding
 pub same_both : (j : TheJoinedJobs) (n : ℕ) (xs ys : List TheFinishedCore) → AllZip (KeepsFrom (2 * n)) xs ys → both_at (handled_at j ys) n ≡ both_at (handled_at j xs) n

@@ -8,10 +8,9 @@ use Rattle.fl_cores_jobs.specs.EndWork.{TheEndWork, end_work_at, end_of, places_
 use Rattle.fl_cores_jobs.specs.State.{TheJoinedJobs}
 use Rattle.fl_cores_fork.specs.Runs.{TheFinishedCore}
 
--- of what came of a core: from this place on its ends' progress are as they were, and so are its sides of rings and its seat
+-- of what came of a core: from this place on its ends' progress are as they were, and so is its seat
 pub record KeepsFrom (place : ℕ) (o o2 : TheFinishedCore) : Type 0 where
   pub progresses : (n : ℕ) → place ≤ n → slice_get o2.run.progresses n ≡ slice_get o.run.progresses n
-  pub rings : o2.run.rings ≡ o.run.rings
   pub seat : o2.run_seat.seat ≡ o.run_seat.seat
 
 -- ---- jobs

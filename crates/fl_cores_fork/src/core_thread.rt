@@ -2,14 +2,14 @@
 
 use fl_core_run::{Part, RunSeat, RunningCore, TurnPlan};
 use fl_cores_shares::SideRecord;
-use fl_ring::SharedSide;
+use fl_history_sides::HistorySides;
 
 /// A core with all that its thread needs.
 #[derive(Drop)]
 pub struct CoreThread {
     // in a box: it is large, and a core thread goes from hand to hand
     /// The core, with its sides of rings, its queues and its ends' progress.
-    pub running: Box<RunningCore<Vec<SharedSide>>>,
+    pub running: Box<RunningCore<HistorySides>>,
     /// What its turns visit.
     pub plan: TurnPlan,
     /// Its seat on the table of the run, and what is known of the openings of its ends.

@@ -12,17 +12,14 @@ ghost use Rattle.fl_monitor.specs.contracts.messenger.Messenger as MessengerRows
 ghost use Rattle.fl_monitor.specs.contracts.monitor.Monitor as MonitorRows;
 ghost use Rattle.fl_link.specs.contracts.queue.QueueLink as QueueLinkRows;
 ghost use Rattle.fl_core.specs.contracts.one_core.Core as CoreRows;
-ghost use Rattle.fl_ring.specs.contracts.shared.duo_sides.SharedSide as SharedSideRows;
-ghost use Rattle.fl_cores_shares.specs.contracts.recorded_side.RecordedSide as RecordedSideRows;
+ghost use Rattle.fl_history_sides.specs.contracts.sides.HistorySides as HistorySidesRows;
 ghost use Rattle.fl_nameserv.specs.contracts.names.Names as NamesRows;
 ghost use Rattle.fl_core_run.specs.contracts.end_progress.EndProgress as ProgressRows;
 ghost use Rattle.fl_core.specs.contracts.core_job.BoxedRequest as RequestRows;
 ghost use Rattle.fl_core.specs.contracts.core_job.CoreJob as JobRows;
 ghost use Rattle.fl_core_run.specs.contracts.running.RunningCore as RunningRows;
-ghost use Rattle.fl_cores_fork.specs.Rows.{sides_row};
 ghost use Rattle.fl_cores_fork.specs.contracts.core_thread.CoreThread as CoreThreadRows;
 ghost use Rattle.fl_cores_fork.specs.contracts.core_thread.FinishedCore as DoneRows;
-ghost use Rattle.fl_cores_fork.specs.contracts.noting.NotingRoom as NotingRoomRows;
 ghost use Rattle.fl_cores_fork.specs.contracts.pace.Pace as PaceRows;
 
 use crate::pace::Pace;
@@ -30,13 +27,12 @@ use fl_compact_calls::{CompactCall, NumberCall};
 use fl_compile::Program;
 use fl_core::{BoxedRequest, CoreJob};
 use fl_core_run::EndProgress;
-use fl_cores_shares::RecordedSide;
 use fl_endpoint::End;
+use fl_history_sides::HistorySides;
 use fl_link::QueueLink;
 use fl_machine::Reassemblies;
 use fl_monitor::{Messenger, Monitor};
 use fl_nameserv::Names;
-use fl_ring::SharedSide;
 use fl_value_data::Call;
 
 // What goes to a thread.
@@ -124,17 +120,10 @@ fn core_sent()
     queue_sent();
 }
 
-fn side_sent()
-    ensures sent { IsSend SharedSideRows.the_row }
+fn sides_sent()
+    ensures sent { IsSend HistorySidesRows.the_row }
 {
-    assert_send::<SharedSide>();
-}
-
-fn recorded_side_sent()
-    ensures sent { IsSend RecordedSideRows.the_row }
-{
-    side_sent();
-    assert_send::<RecordedSide>();
+    assert_send::<HistorySides>();
 }
 
 fn names_sent()
@@ -180,10 +169,10 @@ pub(crate) fn law_pace_shared()
 
 // So may a core with its sides of rings, as a part of a core thread.
 fn running_sent()
-    ensures sent { IsSend (RunningRows.the_field sides_row).row }
+    ensures sent { IsSend (RunningRows.the_field HistorySidesRows.the_row).row }
 {
     core_sent();
-    side_sent();
+    sides_sent();
     queue_sent();
     progress_sent();
     names_sent();
@@ -197,15 +186,6 @@ pub(crate) fn core_thread_sent()
     ensures part { IsSend (CoreThreadRows.the_field).row }
 {
     running_sent();
-}
-
-// So may room for its recorded run.
-pub(crate) fn room_sent()
-    ensures sent { IsSend NotingRoomRows.the_row }
-{
-    running_sent();
-    side_sent();
-    recorded_side_sent();
 }
 
 // So may what came of it.

@@ -11,15 +11,15 @@ ghost use Rattle.fl_core.specs.BoardView.{TheEndAtChannel};
 ghost use Rattle.fl_core.specs.Sound.{IsCore};
 ghost use Rattle.fl_cores_fork.specs.declared.no_report.NoReport.TheVariants as stop;
 ghost use Rattle.fl_cores_fork.specs.CoreThreads.{IsReady, AllReady, CoreThreadRan};
-ghost use Rattle.fl_cores_fork.specs.Rooms.{RoomFits};
 
 use crate::core_thread::{CoreThread, FinishedCore};
-use crate::crossing::{core_thread_sent, done_sent, law_job_shared, law_pace_shared, room_sent};
+use crate::crossing::{core_thread_sent, done_sent, law_job_shared, law_pace_shared};
 use crate::no_report::NoReport;
-use crate::noting::{NotingRoom, room_if, run_thread};
+use crate::noting::{records_if, run_thread};
 use crate::pace::{Pace, PacedGate};
 use fl_core::{Core, CoreJob};
-use fl_core_run::{Gate, core_run};
+use fl_core_run::{CoreSides, Gate, core_run};
+use fl_cores_shares::SideRecord;
 use fl_cores_table::EndSeat;
 use fl_hop::law_never_shared;
 use std::alloc::{AllocError, Global};
@@ -86,6 +86,7 @@ pub(crate) fn run_one<R: Wait, G: Gate>(
     ) {
         Ok(part) => {
             law_sound(&core_thread.running.core);
+            core_thread.running.rings.shows();
             Ok(FinishedCore {
                 core_thread,
                 part,
@@ -104,14 +105,13 @@ fn run_paced<R: Wait, G: Gate>(
     core_thread: CoreThread,
     jobs: &[CoreJob],
     limit: u64,
-    room: Option<NotingRoom>,
+    records: Option<Vec<SideRecord>>,
 ) -> Result<FinishedCore, AllocError>
     requires ready { IsReady core_thread }
-    requires fits { RoomFits core_thread room }
     ensures ran { IfOk result (λ d. CoreThreadRan jobs.now limit core_thread d) }
 {
     let gate = PacedGate { gate, pace };
-    let ran = run_thread(rt, &gate, core_thread, jobs, limit, room);
+    let ran = run_thread(rt, &gate, core_thread, jobs, limit, records);
     pace.end();
     ran
 }
@@ -136,7 +136,6 @@ fn start<'s, 'e: 's, R: Threads + Wait + Sync, G: Gate + Sync>(
     ensures limit { IfSome result (λ child. child.promise.limit ≡ limit) }
 {
     core_thread_sent();
-    room_sent();
     done_sent();
     law_job_shared();
     law_pace_shared();
@@ -145,14 +144,13 @@ fn start<'s, 'e: 's, R: Threads + Wait + Sync, G: Gate + Sync>(
         jobs,
         limit,
     };
-    let room = room_if(is_recorded, &core_thread);
+    let records = records_if(is_recorded, &core_thread);
     let run = move || -> Result<FinishedCore, AllocError>
         requires shared { IsSync R.row }
         requires gate { IsSync G.row }
         requires ready { IsReady core_thread }
-        requires fits { RoomFits core_thread room }
         ensures ran { IfOk result (λ d. CoreThreadRan jobs.entry.now limit core_thread d) }
-    { run_paced(rt, gate, pace, core_thread, jobs, limit, room) };
+    { run_paced(rt, gate, pace, core_thread, jobs, limit, records) };
     scope.spawn_with(promise, run).ok()
 }
 

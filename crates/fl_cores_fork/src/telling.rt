@@ -12,11 +12,11 @@ ghost use Rattle.fl_cores_file.specs.Reports.{both_of, report_of, ending_of};
 ghost use Rattle.fl_cores_jobs.specs.EndWork.{end_work_of, end_of, reply_by};
 ghost use Rattle.fl_cores_jobs.specs.Joined.{HasEndWork, core_at};
 ghost use Rattle.fl_cores_jobs.specs.State.{joined_of};
-ghost use Rattle.fl_cores_fork.specs.Runs.{seats_left, sides_left};
+ghost use Rattle.fl_cores_fork.specs.Runs.{seats_left};
 ghost use Rattle.fl_cores_fork.specs.Tells.{progress_left, handled_by, handled_at, sent_by, sent_at, waiting_left, made_at, both_at, refusal_at, by_binding};
 ghost use Rattle.fl_cores_fork.specs.Tells.{turns_in, left_off, was_told, Tells};
 ghost use Rattle.fl_cores_fork.specs.Taking.{KeepsFrom, AreOnce, KeepsOthers, KeepsJobs, HavePlaces, with_jobs};
-ghost use Rattle.fl_cores_fork.specs.CoreThreads.{outcome_of, has_left_off, has_been_told};
+ghost use Rattle.fl_cores_fork.specs.CoreThreads.{hand_left, hands_left, outcome_of, has_left_off, has_been_told};
 
 use crate::core_thread::FinishedCore;
 use fl_base::{EndId, MsgNo, Side};
@@ -246,6 +246,7 @@ fn take_handled(alloc: Global, progresses: &mut Vec<EndProgress>, place: usize) 
 fn take_from(alloc: Global, one: &mut FinishedCore, place: usize) -> Vec<CompactCall>
     ensures handled { map call_of result.items ≡ given (slice_get (outcome_of one.old).run.progresses place) [] handled_by }
     ensures rest { KeepsFrom (place + 1) (outcome_of one.old) (outcome_of one.new) }
+    ensures hand { hand_left one.new ≡ hand_left one.old }
 {
     take_handled(alloc, &mut one.core_thread.running.progresses, place)
 }
@@ -260,6 +261,7 @@ fn take_at(
     requires few { end.binding < 1024 }
     ensures handled { map call_of result.items ≡ handled_at (joined_of joined.now) (map outcome_of done.old.items) end }
     ensures rest { AllZip (KeepsFrom (slot_of end + 1)) (map outcome_of done.old.items) (map outcome_of done.new.items) }
+    ensures hands { hands_left done.new.items ≡ hands_left done.old.items }
 {
     match core_at(&joined.bindings, end) {
         None => Vec::new(alloc),
@@ -357,6 +359,7 @@ fn both_handled(
     requires few { binding < 1024 }
     ensures handled { both_of result ≡ both_at (handled_at (joined_of joined.now) (map outcome_of done.old.items)) binding }
     ensures rest { AllZip (KeepsFrom (2 * (binding + 1))) (map outcome_of done.old.items) (map outcome_of done.new.items) }
+    ensures hands { hands_left done.new.items ≡ hands_left done.old.items }
 {
     let side = Side::Client;
     let client = take_at(alloc, done, joined, EndId { binding, side });
@@ -396,6 +399,7 @@ fn all_handled(
     ensures handled { IfOk result (λ all. map both_of all.items
         ≡ by_binding (joined_of joined.now) (both_at (handled_at (joined_of joined.now) (map outcome_of done.old.items)))) }
     ensures rest { OnOk result (AllZip (KeepsFrom (2 * length joined.now.bindings.items)) (map outcome_of done.old.items) (map outcome_of done.new.items)) }
+    ensures hands { OnOk result (hands_left done.new.items ≡ hands_left done.old.items) }
 {
     let mut all = Vec::new(alloc);
     for binding in 0..joined.bindings.as_slice().len() {
@@ -513,7 +517,7 @@ fn turns_of(alloc: Global, done: &[FinishedCore]) -> Result<Vec<u64>, AllocError
 }
 
 /// The report of a run with these jobs, by what the cores came to. The calls are moved into it; the cores' seats and sides of rings stay.
-#[tactic(auto, using(crate::proofs::Taking::same_seats, crate::proofs::Taking::same_sides))]
+#[tactic(auto, using(crate::proofs::Taking::same_seats))]
 pub fn tell(
     alloc: Global,
     jobs: Vec<CoreJob>,
@@ -525,7 +529,7 @@ pub fn tell(
     requires places { HavePlaces (joined_of joined.now).end_works jobs.items }
     ensures tells { IfOk result (λ r. Tells (with_jobs jobs.items (joined_of joined.now)) (map outcome_of done.old.items) (report_of r)) }
     ensures seats { OnOk result (seats_left (map outcome_of done.new.items) ≡ seats_left (map outcome_of done.old.items)) }
-    ensures sides { OnOk result (sides_left (map outcome_of done.new.items) ≡ sides_left (map outcome_of done.old.items)) }
+    ensures hands { OnOk result (hands_left done.new.items ≡ hands_left done.old.items) }
 {
     let mut jobs = jobs;
     let ending = ending_of(done)?;

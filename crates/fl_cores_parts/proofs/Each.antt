@@ -8,7 +8,8 @@ use Rattle.fl_core.specs.declared.core_job.CoreJob.{CoreJob}
 use Rattle.fl_cores_fork.specs.declared.core_thread.CoreThread.{CoreThread}
 use Rattle.fl_cores_fork.specs.declared.core_thread.FinishedCore.{FinishedCore}
 use Rattle.fl_cores_fork.specs.Runs.{TheFinishedCore, TheCoreThread, IsLeftSound, RanTo}
-use Rattle.fl_cores_fork.specs.CoreThreads.{outcome_of, AllReady, CoreThreadRan, core_thread_of}
+use Rattle.fl_cores_fork.specs.CoreThreads.{outcome_of, AllReady, CoreThreadRan, core_thread_of, without_records}
+use Rattle.fl_cores_fork.proofs.RanOver.{ran_without}
 use Rattle.fl_cores_parts.specs.Begins.{TheCoreInputs, IsCoreThread, AreCoreThreads}
 
 -- ---- as definitions have them
@@ -65,3 +66,16 @@ as_many c n [] [] all = refl
 as_many c n [] (s ∷ ss) all = absurd all
 as_many c n (k ∷ ks) [] all = absurd all
 as_many c n (k ∷ ks) (s ∷ ss) all = ap suc (as_many c (suc n) ks ss all.1)
+
+-- what sides noted is nothing to that
+pub all_without : (jobs : List CoreJob) (limit : ℕ) (xs : List CoreThread) (ys zs : List FinishedCore) → map without_records zs ≡ map without_records ys
+    → AllZip (CoreThreadRan jobs limit) xs ys → AllZip (CoreThreadRan jobs limit) xs zs
+all_without jobs limit [] [] [] same all = tt
+all_without jobs limit [] [] (z ∷ zs) same all = absurd (cc)
+all_without jobs limit [] (y ∷ ys) zs same all = absurd all
+all_without jobs limit (x ∷ xs) [] zs same all = absurd all
+all_without jobs limit (x ∷ xs) (y ∷ ys) [] same all = absurd (cc)
+all_without jobs limit (x ∷ xs) (y ∷ ys) (z ∷ zs) same all =
+    let first : without_records z ≡ without_records y = cc in
+    let rest : map without_records zs ≡ map without_records ys = cc in
+    (ran_without jobs limit x y z first all.0, all_without jobs limit xs ys zs rest all.1)

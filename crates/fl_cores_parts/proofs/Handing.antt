@@ -1,22 +1,34 @@
 -- Rings and queues handed out, one after another.
-use Rattle.std.proofs.Common.{◌≡◌, refl, sym, ap, ◌∙◌, subst, arith, ℕ, suc, ◌+◌, ◌*◌, ◌<◌, ◌≤◌, List, [], ◌∷◌, ◌++◌, length, take, get_or, Some}
-use Rattle.std.proofs.lemmas.List.{append_assoc, length-append, take_more, take_all}
+use Rattle.std.proofs.Common.{◌≡◌, ◌≢◌, refl, sym, ap, ◌∙◌, subst, arith, ℕ, suc, ◌+◌, ◌*◌, ◌<◌, ◌≤◌, List, [], ◌∷◌, ◌++◌, map, length, take, get_or, Some}
+use Rattle.std.proofs.lemmas.List.{append_assoc, length-append, map-append, take_more, take_all}
 use Rattle.std.proofs.lemmas.Option.{slice_get-get_or}
 use Rattle.fl_compile.specs.declared.program.Program.{Program}
 use Rattle.fl_link.specs.Queue.{TheQueue}
 use Rattle.fl_ring.specs.Duo.{TheDuo}
-use Rattle.fl_ring.specs.SharedSides.{TheSide}
+use Rattle.atomic_table.specs.Seated.{TableId}
+use Rattle.fl_ring.specs.Duo.{MayHaveSlots}
+use Rattle.fl_ring.specs.SharedSides.{TheSide, started_side}
+use Rattle.fl_ring.specs.declared.shared.duo_board.SeatHolder.TheVariants.{One, Two}
+use Rattle.fl_history_rings.specs.declared.board.RingEnds.{RingEnds}
+use Rattle.fl_history_rings.specs.Cores.{IsRingOf}
+use Rattle.fl_history_sides.specs.States.{TheHistorySide}
+use Rattle.fl_history_sides.proofs.Lists.{all_push}
 use Rattle.fl_core.specs.View.{TheCore}
 use Rattle.fl_world_refines.specs.declared.parts.Parts.{Parts}
 use Rattle.fl_cores_shares.specs.declared.shares.CoreShares.{CoreShares}
-use Rattle.fl_cores_shares.specs.Shares.{AreNew, holdings_in, Holds, Gives, HandsOut}
-use Rattle.fl_cores_shares.specs.Settled.{TwoSides, sides_of}
+use Rattle.fl_cores_shares.specs.Shares.{Holdings, AreHandedOut, holdings_in, Holds, Gives}
+use Rattle.fl_cores_shares.specs.Settled.{sides_of as both_of}
+use Rattle.fl_history_shares.specs.declared.dealing.DealtSides.{DealtSides}
+use Rattle.fl_history_shares.specs.Dealt.{owners_in, numbers_below, hands_in, new_rings, shown_hands}
+use Rattle.fl_history_shares.proofs.Numbered.{owners_more}
+use Rattle.fl_history_shares.proofs.Shown.{dealt_shown}
 use Rattle.fl_world_refines.specs.ShowsState.{NamesQueue, NamesSide}
 use Rattle.fl_cores_jobs.specs.State.{TheJoinedJobs}
 use Rattle.fl_cores_fork.specs.Runs.{TheCoreThread}
 use Rattle.fl_cores_parts.specs.Begins.{TheCoreInputs, Places, common_in, AreCoreThreads}
 use Rattle.fl_cores_parts.specs.Shares.{AreOwners, AreShared, AreNewRings, sides_given, queues_given}
-use Rattle.fl_cores_parts.specs.Dealing.{AreOf, HaveOwners, HandsOutRings, HandsOutQueues, SharesOut, Wirings}
+use Rattle.fl_cores_parts.specs.AtTable.{AreBetween, BeginAtTable}
+use Rattle.fl_cores_parts.specs.Dealing.{AreOf, HaveOwners, DealsRings, HandsOutQueues, SharesOut, Wirings}
 
 -- ---- owners
 
@@ -38,30 +50,58 @@ two_owners owners place first second below one two =
 
 -- ---- rings
 
-new_more : (rings : List TheDuo) (pairs : List TwoSides) (r : TheDuo) (p : TwoSides) → AreNewRings rings pairs → AreNew r.size p.one p.two
-    → AreNewRings (rings ++ r ∷ []) (pairs ++ p ∷ [])
-new_more [] [] r p new one = (one, tt)
-new_more [] (q ∷ pairs) r p new one = absurd new
-new_more (s ∷ rings) [] r p new one = absurd new
-new_more (s ∷ rings) (q ∷ pairs) r p new one = (new.0, new_more rings pairs r p new.1 one)
+-- no ring is between its cores yet
+pub none_between : (cores : ℕ) → AreBetween [] [] cores []
+none_between cores = record { sizes = refl; owners_are = refl; of = tt; apart = tt }
 
-sides_more : (pairs : List TwoSides) (p : TwoSides) → sides_of (pairs ++ p ∷ []) ≡ sides_of pairs ++ p.one ∷ p.two ∷ []
-sides_more [] p = refl
-sides_more (q ∷ pairs) p = ap (λ (xs : List TheSide). q.one ∷ q.two ∷ xs) (sides_more pairs p)
+ring_more : (rings : List TheDuo) (owners : List ℕ) (cores : ℕ) (ends : List RingEnds) (r : TheDuo) (e : RingEnds) → AreBetween rings owners cores ends
+    → e.slots ≡ r.size → IsRingOf cores e → e.first ≢ e.second → AreBetween (rings ++ r ∷ []) (owners ++ e.first ∷ e.second ∷ []) cores (ends ++ e ∷ [])
+ring_more rings owners cores ends r e so size of apart = record {
+  sizes = map-append (λ (x : RingEnds). x.slots) ends (e ∷ []) ∙ ap (λ (ns : List ℕ). ns ++ e.slots ∷ []) so.sizes
+      ∙ ap (λ (n : ℕ). map (λ (x : TheDuo). x.size) rings ++ n ∷ []) size ∙ sym (map-append (λ (x : TheDuo). x.size) rings (r ∷ []));
+  owners_are = owners_more ends e ∙ ap (λ (os : List ℕ). os ++ e.first ∷ e.second ∷ []) so.owners_are;
+  of = all_push (IsRingOf cores) ends e so.of of;
+  apart = all_push (λ (x : RingEnds). x.first ≢ x.second) ends e so.apart apart;
+}
 
-pub one_ring_more : (rings : List TheDuo) (owners : List ℕ) (cores i place : ℕ) (d d2 : CoreShares TheSide) (r : TheDuo) (first second : ℕ) → i < length rings
-    → r ≡ get_or rings i r → place + 1 < length owners → first ≡ get_or owners place 0 → second ≡ get_or owners (place + 1) 0
-    → HandsOutRings (take i rings) (take place owners) cores d → HandsOut r.size first second d d2 → HandsOutRings (take (i + 1) rings) (take (place + 2) owners) cores d2
-one_ring_more rings owners cores i place d d2 r first second below is within one two so hands_out =
-    let p : TwoSides = record { one = hands_out.one; two = hands_out.two } in
-    let whole : take (i + 1) rings ≡ take i rings ++ r ∷ [] = take_more rings i r below ∙ ap (λ (x : TheDuo). take i rings ++ x ∷ []) (sym is) in
-    record {
-      pairs = so.pairs ++ p ∷ [];
-      new = subst (λ (rs : List TheDuo). AreNewRings rs (so.pairs ++ p ∷ [])) (sym whole) (new_more (take i rings) so.pairs r p so.new hands_out.new);
-      holds = subst (Holds d2) (sym (sides_more so.pairs p)) (hands_out.holds (sides_of so.pairs) so.holds);
-      owners_are = hands_out.owners ∙ ap (λ (xs : List ℕ). xs ++ first ∷ second ∷ []) so.owners_are ∙ sym (two_owners owners place first second within one two);
-      as_many = hands_out.cores ∙ so.as_many;
-    }
+pub one_ring_more : (rings : List TheDuo) (owners : List ℕ) (cores i place : ℕ) (ends more : List RingEnds) (r : TheDuo) (e : RingEnds) (first second : ℕ) → i < length rings
+    → r ≡ get_or rings i r → place + 1 < length owners → first ≡ get_or owners place 0 → second ≡ get_or owners (place + 1) 0 → AreOf cores owners
+    → AreBetween (take i rings) (take place owners) cores ends → e.slots ≡ r.size → MayHaveSlots r.size → e.first ≡ first → e.second ≡ second → first ≢ second
+    → more ≡ ends ++ e ∷ [] → AreBetween (take (i + 1) rings) (take (place + 2) owners) cores more
+one_ring_more rings owners cores i place ends more r e first second below is within one two of so size may first_is second_is apart added =
+    let whole : take i rings ++ r ∷ [] ≡ take (i + 1) rings = ap (λ (x : TheDuo). take i rings ++ x ∷ []) is ∙ sym (take_more rings i r below) in
+    let both : take place owners ++ e.first ∷ e.second ∷ [] ≡ take (place + 2) owners =
+    ap (λ (n : ℕ). take place owners ++ n ∷ e.second ∷ []) first_is ∙ ap (λ (n : ℕ). take place owners ++ first ∷ n ∷ []) second_is
+    ∙ sym (two_owners owners place first second within one two) in
+    let ring : IsRingOf cores e = record {
+      slots = subst MayHaveSlots (sym size) may;
+      first = subst (λ (n : ℕ). n < cores) (sym first_is) (owner_of cores owners place first of (omega (arith, within)) one);
+      second = subst (λ (n : ℕ). n < cores) (sym second_is) (owner_of cores owners (place + 1) second of within two);
+    } in
+    let unlike : e.first ≢ e.second = λ same. apart (sym first_is ∙ same ∙ second_is) in
+    subst (λ (rs : List TheDuo). AreBetween rs (take (place + 2) owners) cores more) whole
+    (subst (λ (os : List ℕ). AreBetween (take i rings ++ r ∷ []) os cores more) both
+    (subst (λ (es : List RingEnds). AreBetween (take i rings ++ r ∷ []) (take place owners ++ e.first ∷ e.second ∷ []) cores es) (sym added)
+    (ring_more (take i rings) (take place owners) cores ends r e so size ring unlike)))
+
+pub all_between : (rings : List TheDuo) (owners : List ℕ) (cores i place : ℕ) (ends : List RingEnds) → length rings ≤ i → place ≡ 2 * i → length owners ≡ 2 * length rings
+    → AreBetween (take i rings) (take place owners) cores ends → AreBetween rings owners cores ends
+all_between rings owners cores i place ends all is count so =
+    subst (λ (os : List ℕ). AreBetween rings os cores ends) (take_all place owners (omega (arith, all, is, count)))
+    (subst (λ (rs : List TheDuo). AreBetween rs (take place owners) cores ends) (take_all i rings all) so)
+
+-- new ones, of these sizes
+new_of : (table : TableId) (rings : List TheDuo) (ends : List RingEnds) → map (λ (e : RingEnds). e.slots) ends ≡ map (λ (r : TheDuo). r.size) rings
+    → AreNewRings rings (new_rings table ends)
+new_of table [] [] same = tt
+new_of table [] (e ∷ ends) same = absurd (cc)
+new_of table (r ∷ rings) [] same = absurd (cc)
+new_of table (r ∷ rings) (e ∷ ends) same =
+    let first : e.slots ≡ r.size = cc in
+    let rest : map (λ (x : RingEnds). x.slots) ends ≡ map (λ (x : TheDuo). x.size) rings = cc in (
+      record { one_is = ap (λ (n : ℕ). started_side table One n 0) first; two_is = ap (λ (n : ℕ). started_side table Two n 0) first },
+      new_of table rings ends rest,
+    )
 
 -- ---- queues
 
@@ -103,15 +143,15 @@ shared_of {T} d things owners holdings holds same is =
     (record { handed_out = holds.handed_out; at = holds.places; apart = holds.apart; counted = holds.counted }))
 
 -- both kinds of things, by so many rings, queues and cores as there are
-pub shares_out : (ks : List TheCore) (rs : List TheDuo) (qs : List TheQueue) (rings queues cores : ℕ) (by_sides by_queues : List ℕ) (s : CoreShares TheSide) (q : CoreShares TheQueue)
+pub shares_out : (ks : List TheCore) (rs : List TheDuo) (qs : List TheQueue) (rings queues cores : ℕ) (by_sides by_queues : List ℕ) (s : DealtSides) (q : CoreShares TheQueue)
     → rings ≡ length rs → queues ≡ length qs → cores ≡ length ks → HaveOwners ks NamesSide (2 * rings) by_sides → HaveOwners ks NamesQueue queues by_queues
-    → HandsOutRings rs by_sides cores s → HandsOutQueues qs by_queues cores q → SharesOut ks rs qs s q
+    → DealsRings rs by_sides cores s → HandsOutQueues qs by_queues cores q → SharesOut ks rs qs s q
 shares_out ks rs qs rings queues cores by_sides by_queues s q is_rings is_queues is_cores named_sides named_queues hands_out_s hands_out_q = record {
   by_sides = by_sides;
   by_queues = by_queues;
   sides_named = subst (λ (n : ℕ). HaveOwners ks NamesSide (2 * n) by_sides) is_rings named_sides;
   queues_named = subst (λ (n : ℕ). HaveOwners ks NamesQueue n by_queues) is_queues named_queues;
-  sides = subst (λ (n : ℕ). HandsOutRings rs by_sides n s) is_cores hands_out_s;
+  sides = subst (λ (n : ℕ). DealsRings rs by_sides n s) is_cores hands_out_s;
   queues = subst (λ (n : ℕ). HandsOutQueues qs by_queues n q) is_cores hands_out_q;
 }
 
@@ -133,24 +173,55 @@ common_same p j cores programs sides sides2 queues queues2 is_cores is_programs 
     ∙ ap (λ (ss : List ℕ). common_at p j (length p.cores.items) p.programs.items ss queues) is_sides
     ∙ ap (λ (qs : List ℕ). common_at p j (length p.cores.items) p.programs.items sides2 qs) is_queues
 
-pub wires_of : (p : Parts) (j : TheJoinedJobs) (c : TheCoreInputs) (core_threads : List TheCoreThread) (ks : List TheCore) (rs : List TheDuo) (s : CoreShares TheSide) (q : CoreShares TheQueue)
-    → c ≡ common_in p j (record { sides = s.places.items; queues = q.places.items }) → ks ≡ p.cores.items → rs ≡ p.rings.items → SharesOut ks rs p.queues.items s q
-    → AreCoreThreads c 0 p.cores.items core_threads → sides_given core_threads ≡ holdings_in s → queues_given core_threads ≡ holdings_in q → Wirings p j core_threads s.owners.items
-wires_of p j c core_threads ks rs s q common is_cores is_rings handed_out are holdings_s holdings_q =
-    let at : Places = record { sides = s.places.items; queues = q.places.items } in
+-- the sides that are dealt, as sides of rings by themselves
+sides_shared : (rings : List TheDuo) (owners : List ℕ) (cores : ℕ) (s : DealtSides) (deals : DealsRings rings owners cores s) (holdings : Holdings TheSide)
+    → holdings ≡ shown_hands (hands_in s.sides.items)
+    → AreShared s.numbers.owners.items (both_of (new_rings deals.deals.table deals.ends)) s.numbers.places.items holdings
+sides_shared rings owners cores s deals holdings is =
+    let out = dealt_shown deals.ends cores s deals.deals in
+    subst (λ (hs : Holdings TheSide). AreShared s.numbers.owners.items (both_of (new_rings deals.deals.table deals.ends)) s.numbers.places.items hs) (sym is)
+    (record { handed_out = out.handed_out; at = out.at; apart = deals.deals.holds.apart; counted = deals.deals.holds.counted })
+
+pub wires_of : (p : Parts) (j : TheJoinedJobs) (c : TheCoreInputs) (core_threads : List TheCoreThread) (ks : List TheCore) (rs : List TheDuo) (s : DealtSides) (q : CoreShares TheQueue)
+    → c ≡ common_in p j (record { sides = s.numbers.places.items; queues = q.places.items }) → ks ≡ p.cores.items → rs ≡ p.rings.items → SharesOut ks rs p.queues.items s q
+    → AreCoreThreads c 0 p.cores.items core_threads → sides_given core_threads ≡ shown_hands (hands_in s.sides.items) → queues_given core_threads ≡ holdings_in q
+    → Wirings p j core_threads s.numbers.owners.items
+wires_of p j c core_threads ks rs s q common is_cores is_rings handed_out are hands_s holdings_q =
+    let at : Places = record { sides = s.numbers.places.items; queues = q.places.items } in
     let out : SharesOut p.cores.items p.rings.items p.queues.items s q =
     subst (λ (rings : List TheDuo). SharesOut p.cores.items rings p.queues.items s q) is_rings
     (subst (λ (cores : List TheCore). SharesOut cores rs p.queues.items s q) is_cores handed_out) in
+    let owners : s.numbers.owners.items ≡ out.by_sides = out.sides.deals.owners ∙ out.sides.between.owners_are in
     record {
       places = at;
       begin = subst (λ (d : TheCoreInputs). AreCoreThreads d 0 p.cores.items core_threads) common are;
       dealing = record {
-        sides_named = subst (AreOwners p.cores.items NamesSide (2 * length p.rings.items)) (sym out.sides.owners_are) out.sides_named.named;
-        pairs = out.sides.pairs;
-        new = out.sides.new;
-        sides = shared_of s (sides_of out.sides.pairs) s.owners.items (sides_given core_threads) out.sides.holds refl holdings_s;
+        sides_named = subst (AreOwners p.cores.items NamesSide (2 * length p.rings.items)) (sym owners) out.sides_named.named;
+        pairs = new_rings out.sides.deals.table out.sides.ends;
+        new = new_of out.sides.deals.table p.rings.items out.sides.ends out.sides.between.sizes;
+        sides = sides_shared p.rings.items out.by_sides (length p.cores.items) s out.sides (sides_given core_threads) hands_s;
         queue_owners = out.by_queues;
         queues_named = out.queues_named.named;
         queues = shared_of q p.queues.items out.by_queues (queues_given core_threads) out.queues.holds out.queues.owners_are holdings_q;
       };
+    }
+
+-- the cores begin with sides of rings at one table
+pub begins_at : (p : Parts) (ks : List TheCore) (rs : List TheDuo) (s : DealtSides) (q : CoreShares TheQueue) (hands : Holdings TheHistorySide)
+    → ks ≡ p.cores.items → rs ≡ p.rings.items → SharesOut ks rs p.queues.items s q → hands ≡ hands_in s.sides.items
+    → BeginAtTable p.rings.items s.numbers.owners.items (length p.cores.items) hands
+begins_at p ks rs s q hands is_cores is_rings handed_out is =
+    let out : SharesOut p.cores.items p.rings.items p.queues.items s q =
+    subst (λ (rings : List TheDuo). SharesOut p.cores.items rings p.queues.items s q) is_rings
+    (subst (λ (cores : List TheCore). SharesOut cores rs p.queues.items s q) is_cores handed_out) in
+    let deals = out.sides.deals in
+    let owners : s.numbers.owners.items ≡ out.by_sides = deals.owners ∙ out.sides.between.owners_are in
+    let count : length (owners_in out.sides.ends) ≡ length s.numbers.owners.items = sym (ap length deals.owners) in
+    record {
+      ends = out.sides.ends;
+      between = subst (λ (os : List ℕ). AreBetween p.rings.items os (length p.cores.items) out.sides.ends) (sym owners) out.sides.between;
+      table = deals.table;
+      numbers = holdings_in s.numbers;
+      handed_out = subst (λ (n : ℕ). AreHandedOut s.numbers.owners.items (numbers_below n) (holdings_in s.numbers)) count deals.holds.handed_out;
+      hands_are = is ∙ deals.hands;
     }

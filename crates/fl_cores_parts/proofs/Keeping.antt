@@ -15,12 +15,13 @@ use Rattle.fl_world_refines.specs.declared.parts.Parts.{Parts}
 use Rattle.fl_cores_fork.specs.declared.core_thread.CoreThread.{CoreThread}
 use Rattle.fl_cores_fork.specs.declared.core_thread.FinishedCore.{FinishedCore}
 use Rattle.fl_cores_shares.specs.Shares.{AreHandedOut}
-use Rattle.fl_cores_shares.specs.Settled.{TwoSides, sides_of, Each, IsNear, HoldRings}
+use Rattle.fl_cores_shares.specs.Settled.{TwoSides, sides_of, Each, IsNear}
 use Rattle.fl_cores_fork.specs.Runs.{sides_left, TheFinishedCore, seats_left, TheCoreThread, RanTo}
 use Rattle.fl_cores_fork.specs.Tells.{Tells, turns_in, left_off}
 use Rattle.fl_cores_fork.specs.CoreThreads.{outcome_of, AllReady, CoreThreadRan, core_thread_of}
 use Rattle.fl_cores_parts.specs.Shares.{Shares}
-use Rattle.fl_cores_parts.specs.Dealing.{Dealing, Wirings, RingsHold}
+use Rattle.fl_cores_parts.specs.AtTable.{RanAtTable}
+use Rattle.fl_cores_parts.specs.Dealing.{Dealing, Wirings}
 use Rattle.fl_cores_parts.proofs.Each.{each_ran, begin_sound, left_sound, as_many as as_many_core_threads}
 use Rattle.fl_cores_parts.specs.Begins.{Places, common_in}
 use Rattle.fl_cores_parts.specs.Heard.{HeardAsTold}
@@ -100,18 +101,13 @@ shares_of p at core_threads outcomes owners d near = record {
   near = near;
 }
 
--- the sides that were handed out are still in their owners' hands
-pub still_held : (p : Parts) (j : TheJoinedJobs) (limit : ℕ) (xs : List CoreThread) (ys : List FinishedCore) (owners : List ℕ) → RingsHold → Wirings p j (map core_thread_of xs) owners
-    → AllZip (CoreThreadRan j.jobs limit) xs ys → HoldRings owners (sides_left (map outcome_of ys))
-still_held p j limit xs ys owners hold wires all =
-    hold j.jobs limit p.rings.items wires.dealing.pairs owners (map core_thread_of xs) (map outcome_of ys) (each_ran j.jobs limit xs ys all) wires.dealing.new
-    wires.dealing.sides.handed_out
-
 pub cores_ran : (p : Parts) (j : TheJoinedJobs) (limit : ℕ) (xs : List CoreThread) (ys : List FinishedCore) (owners : List ℕ) (r : TheReport) → Wirings p j (map core_thread_of xs) owners
     → AllReady xs → AllZip (CoreThreadRan j.jobs limit) xs ys
     → ((after : List TwoSides) → AreHandedOut owners (sides_of after) (sides_left (map outcome_of ys)) → Each IsNear after) → (count : ℕ) → count ≡ length j.owners
-    → HeardAsTold count (seats_left (map outcome_of ys)) → Tells j (map outcome_of ys) r → CoresRan p j limit r
-cores_ran p j limit xs ys owners r wires ready all near count is heard tells = record {
+    → HeardAsTold count (seats_left (map outcome_of ys)) → Tells j (map outcome_of ys) r
+    → RanAtTable j.jobs limit p.rings.items owners (map core_thread_of xs) (map outcome_of ys) → CoresRan p j limit r
+unfolding shares_of
+cores_ran p j limit xs ys owners r wires ready all near count is heard tells order = record {
   core_threads = map core_thread_of xs;
   places = wires.places;
   begin = wires.begin;
@@ -121,6 +117,7 @@ cores_ran p j limit xs ys owners r wires ready all near count is heard tells = r
   sound = record { begin = begin_sound xs ready; left = left_sound j.jobs limit xs ys all };
   heard = subst (λ (n : ℕ). HeardAsTold n (seats_left (map outcome_of ys))) is heard;
   tells = tells;
+  order = order;
 }
 
 pub keeps_ran : (p : Parts) (j : TheJoinedJobs) (limit : ℕ) (r : TheReport) → CoresRan p j limit r → Keeps (length p.cores.items) limit r

@@ -1,3 +1,4 @@
+pub mod AtTable
 pub mod EndWork
 pub mod Each
 pub mod Faults
@@ -6,6 +7,7 @@ pub mod Handing
 pub mod Keeping
 pub mod Lists
 pub mod Owning
+pub mod Moved
 pub mod Ringing
 pub mod Seats
 pub mod Wording

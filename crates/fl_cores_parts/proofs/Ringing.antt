@@ -1,27 +1,22 @@
--- The sides of rings, from the first moment of a run to its last.
-use Rattle.std.proofs.Common.{◌≡◌, refl, sym, ap, ◌∙◌, subst, arith, ℕ, zero, suc, List, [], ◌∷◌, ◌++◌, length, Some}
+-- A core's whole run is a log, and lent sides stay lent.
+use Rattle.std.proofs.Common.{◌≡◌, ap, ◌∙◌, subst, ℕ, List, [], ◌∷◌, ◌++◌, length}
 use Rattle.std.proofs.lemmas.List.{length-set}
-use Rattle.std.specs.List.{AllZip}
 use Rattle.fl_hop.specs.declared.forward.ForwardOutcome.TheVariants.{Moved, Full, Spent}
 use Rattle.fl_link.specs.Queue.{TheQueue}
 use Rattle.fl_core.specs.declared.wiring.Outlet.TheVariants as outlet
 use Rattle.fl_core.specs.declared.wiring.Inlet.TheVariants as inlet
 use Rattle.fl_core.specs.View.{TheCore}
-use Rattle.fl_ring.specs.Duo.{TheDuo}
-use Rattle.fl_ring.specs.SharedSides.{TheSide, SharedPuts, SharedTakes}
 use Rattle.fl_core.specs.declared.core_job.CoreJob.{CoreJob}
+use Rattle.fl_core_run.specs.declared.run.Part.{Part}
 use Rattle.fl_core_run.specs.declared.run.RunEnd.{RunEnd}
 use Rattle.fl_core_run.specs.declared.run.RunEnd.TheVariants.{Finished, Unfinished, Told}
 use Rattle.fl_core_run.specs.Run.{SideRelations, TheRun}
 use Rattle.fl_core_run.specs.LogEntries.{LogEntry, looked, passed, arrived, heard, said, told, opened, called, ruled, wrote, acked, turned, OnRing, OnQueue, Does}
-use Rattle.fl_core_run.specs.Ran.{RunTask, task, GoesOn}
-use Rattle.fl_core_run_laws.specs.Logs.{Goes, TurnsAreLogged, SidesGo, LogsLook, CountedAreTurns}
+use Rattle.fl_core_run.specs.Ran.{RunTask, RunMoment, GoesOn, CoreRan}
+use Rattle.fl_core_run.proofs.Counted.{turns_of}
+use Rattle.fl_core_run_laws.specs.Logs.{Goes, TurnsAreLogged}
 use Rattle.fl_core_run_laws.proofs.Aside.{rings_aside}
-use Rattle.fl_cores_shares.specs.Shares.{AreHandedOut}
-use Rattle.fl_cores_shares.specs.Settled.{WentOn, AllWentOn, HoldingsWentOn, TwoSides, sides_of, Each, IsRing, HandedOutGoOn, RingsStay}
-use Rattle.fl_cores_fork.specs.Runs.{TheFinishedCore, sides_left, TheCoreThread, shared_ways, RanTo}
-use Rattle.fl_cores_parts.specs.Shares.{AreNewRings, sides_given}
-use Rattle.fl_cores_parts.specs.Dealing.{RingsHold}
+use Rattle.fl_core_run_laws.proofs.Logging.{turns_logged}
 
 -- ---- a core's whole run is a log
 
@@ -37,13 +32,11 @@ on_by w t logged Finished s u h = (let x = logged t.plan t.jobs h.0 s u h.1 in (
 on_by w t logged Unfinished s u h = ([], h)
 on_by w t logged Told s u h = ([], h)
 
-run_log : CountedAreTurns shared_ways → TurnsAreLogged shared_ways → (jobs : List CoreJob) (limit : ℕ) (s : TheCoreThread) (o : TheFinishedCore) → RanTo jobs limit s o
-    → IsLog shared_ways jobs s.run o.run
-run_log counted logged jobs limit s o ran =
-    let t = task s.plan jobs limit in
-    let first = logged s.plan jobs o.part.turns s.run ran.middle.run (counted t _ ran.middle o.part ran.counted) in
-    let more = on_by shared_ways t logged o.part.end ran.middle.run o.run ran.goes_on in
-    (first.log ++ more.0, goes_then shared_ways jobs first.log more.0 s.run ran.middle.run o.run first.goes more.1)
+pub run_log : {S : Type 0} (w : SideRelations S) (t : RunTask) (a b : RunMoment S) (part : Part) → CoreRan w t a part b → IsLog w t.jobs a.run b.run
+run_log w t a b part ran =
+    let first = turns_logged w t.plan t.jobs part.turns a.run ran.middle.run (turns_of w t a ran.middle part ran.counted) in
+    let more = on_by w t (turns_logged w) part.end ran.middle.run b.run ran.goes_on in
+    (first.log ++ more.0, goes_then w t.jobs first.log more.0 a.run ran.middle.run b.run first.goes more.1)
 
 -- ---- as many sides as before
 
@@ -75,66 +68,7 @@ as_many w (turned d name (inlet.Queue n) answer) s m h = on_queue n s m _ h.3
 as_many w (turned d name (inlet.Side n) answer) s m h = on_ring n s m _ h.3
 as_many w (turned d name inlet.Arrivals answer) s m h = on_core s m h.3.rest
 
-log_many : {S : Type 0} (w : SideRelations S) (jobs : List CoreJob) (s t : TheRun S) (log : List LogEntry) → Goes w jobs s log t → length t.rings ≡ length s.rings
+pub log_many : {S : Type 0} (w : SideRelations S) (jobs : List CoreJob) (s t : TheRun S) (log : List LogEntry) → Goes w jobs s log t → length t.rings ≡ length s.rings
 log_many w jobs s t [] h = ap (λ (x : TheRun _). length x.rings) h
 log_many w jobs s t (log_entry ∷ log) h =
     log_many w jobs h.0 t log h.3 ∙ ap length (rings_aside h.1.0 h.0 log_entry h.1.2) ∙ as_many w log_entry s h.1.0 h.1.1
-
--- ---- each side went on
-
-all_went : (ps qs : List TheSide) → length qs ≡ length ps → SidesGo SharedPuts SharedTakes ps qs → AllWentOn ps qs
-all_went [] [] same go = tt
-all_went [] (q ∷ qs) same go = absurd (omega (arith, same))
-all_went (p ∷ ps) [] same go = absurd (omega (arith, same))
-all_went (p ∷ ps) (q ∷ qs) same go =
-    let first = go zero p refl in
-    let at : Some q ≡ Some first.0 = first.1 in
-    let is : first.0 ≡ q = cc in
-    (subst (λ (x : TheSide). WentOn p x) is first.2, all_went ps qs (omega (arith, same)) (λ n x there. go (suc n) x there))
-
-module _ (counted : CountedAreTurns shared_ways) (logged : TurnsAreLogged shared_ways) (looks : LogsLook shared_ways) (jobs : List CoreJob) (limit : ℕ) where
-  core_went : (s : TheCoreThread) (o : TheFinishedCore) → RanTo jobs limit s o → AllWentOn s.run.rings o.run.rings
-  core_went s o ran =
-      let log = run_log counted logged jobs limit s o ran in
-      all_went s.run.rings o.run.rings (log_many shared_ways jobs s.run o.run log.0 log.1) (looks jobs s.run o.run log.0 log.1)
-
-  holdings_went : (core_threads : List TheCoreThread) (outcomes : List TheFinishedCore) → AllZip (RanTo jobs limit) core_threads outcomes
-      → HoldingsWentOn (sides_given core_threads) (sides_left outcomes)
-  holdings_went [] [] all core = tt
-  holdings_went [] (o ∷ outcomes) all core = absurd all
-  holdings_went (s ∷ core_threads) [] all core = absurd all
-  holdings_went (s ∷ core_threads) (o ∷ outcomes) all zero = core_went s o all.0
-  holdings_went (s ∷ core_threads) (o ∷ outcomes) all (suc core) = holdings_went core_threads outcomes all.1 core
-
--- ---- rings by their two sides
-
-record StillRings (sides : List TheSide) : Type 0 where
-  pub pairs : List TwoSides
-  pub sides_are : sides ≡ sides_of pairs
-  pub rings : Each IsRing pairs
-
-still_rings : RingsStay → (rings : List TheDuo) (pairs : List TwoSides) (sides : List TheSide) → AreNewRings rings pairs → AllWentOn (sides_of pairs) sides → StillRings sides
-still_rings stay [] [] [] new went = record { pairs = []; sides_are = refl; rings = tt }
-still_rings stay [] [] (s ∷ sides) new went = absurd went
-still_rings stay [] (p ∷ pairs) sides new went = absurd new
-still_rings stay (r ∷ rings) [] sides new went = absurd new
-still_rings stay (r ∷ rings) (p ∷ pairs) [] new went = absurd went
-still_rings stay (r ∷ rings) (p ∷ pairs) (s ∷ []) new went = absurd went.1
-still_rings stay (r ∷ rings) (p ∷ pairs) (s ∷ t ∷ sides) new went =
-    let more = still_rings stay rings pairs sides new.1 went.1.1 in
-    record {
-      pairs = record { one = s; two = t } ∷ more.pairs;
-      sides_are = ap (λ (xs : List TheSide). s ∷ t ∷ xs) more.sides_are;
-      rings = (stay p.one s went.0 ∙ ap (λ (x : TheSide). x.ring) new.0.one_is ∙ sym (stay p.two t went.1.0), more.rings);
-    }
-
-pub rings_hold : CountedAreTurns shared_ways → TurnsAreLogged shared_ways → LogsLook shared_ways → HandedOutGoOn → RingsStay → RingsHold
-rings_hold counted logged looks go_on stay jobs limit rings pairs owners core_threads outcomes ran new handed_out =
-    let (sides, still, went) =
-    go_on owners (sides_of pairs) (sides_given core_threads) (sides_left outcomes) handed_out (holdings_went counted logged looks jobs limit core_threads outcomes ran) in
-    let rs = still_rings stay rings pairs sides new went in
-    record {
-      pairs = rs.pairs;
-      handed_out = subst (λ (xs : List TheSide). AreHandedOut owners xs (sides_left outcomes)) rs.sides_are still;
-      rings = rs.rings;
-    }

@@ -5,7 +5,7 @@ use Rattle.fl_cores_table.specs.declared.table.CoresView.{CoresView}
 use Rattle.fl_cores_table.specs.Counter.{opening_view, both, core_alone, without_core}
 use Rattle.fl_cores_table.specs.Seats.{TheCoresSeat, knowing}
 use Rattle.fl_link.specs.Queue.{TheQueue}
-use Rattle.fl_ring.specs.SharedSides.{TheSide}
+use Rattle.fl_history_sides.specs.declared.sides.HistorySides.{HistorySides}
 use Rattle.fl_core.specs.View.{TheCore}
 use Rattle.fl_cores_jobs.specs.State.{joined_of}
 use Rattle.fl_cores_fork.specs.declared.core_thread.CoreThread.{CoreThread}
@@ -27,10 +27,10 @@ common_of c = record {
 -- a core, and its share of the sides and queues
 pub record CoreShare : Type 0 where
   pub core : TheCore
-  pub rings : List TheSide
+  pub rings : HistorySides
   pub queues : List TheQueue
 
-abbrev pub core_share : TheCore → List TheSide → List TheQueue → CoreShare
+abbrev pub core_share : TheCore → HistorySides → List TheQueue → CoreShare
 core_share core rings queues = record { core = core; rings = rings; queues = queues }
 
 -- everybody's seat, and the core threads that were made so far, each with a seat cut off it
@@ -49,7 +49,7 @@ pub record AddsCoreThread (c : TheCoreInputs) (x : CoreShare) (before after : St
   pub begins : IsCoreThread c (length before.core_threads) x.core (core_thread_of core_thread)
   pub seat : core_thread.run_seat.seat ≡ knowing before.own (core_alone before.own.knows)
   pub left : after.own ≡ knowing before.own (without_core before.own.knows)
-  pub rings_are : core_thread.running.value.rings.items ≡ x.rings
+  pub rings_are : core_thread.running.value.rings ≡ x.rings
   pub queues_are : core_thread.running.value.queues.items ≡ x.queues
 
 -- ---- seats

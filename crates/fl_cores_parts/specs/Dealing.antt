@@ -1,22 +1,24 @@
--- A working file, on which no public promise rests by itself: how what a set-up made is handed out out to core threads, as the code has it.
+-- A working file, on which no public promise rests by itself: how what a set-up made is handed out to core threads,
+-- as the code has it.
 use Rattle.std.specs.Prelude.{ℕ, ◌≡◌, ◌⊎◌, ◌*◌, ◌<◌, List, length, slice_get, Some}
-use Rattle.std.specs.List.{AllZip}
 use Rattle.fl_link.specs.Queue.{TheQueue}
 use Rattle.fl_ring.specs.Duo.{TheDuo}
-use Rattle.fl_ring.specs.SharedSides.{TheSide}
 use Rattle.fl_core.specs.declared.wiring.LinkSide.{LinkSide}
 use Rattle.fl_core.specs.declared.wiring.Inlet.TheVariants as inlet
 use Rattle.fl_core.specs.declared.wiring.Outlet.TheVariants as outlet
 use Rattle.fl_core.specs.View.{TheCore, side_of_link, inlet_of, outlet_of}
-use Rattle.fl_core.specs.declared.core_job.CoreJob.{CoreJob}
 use Rattle.fl_world_refines.specs.declared.parts.Parts.{Parts}
 use Rattle.fl_cores_jobs.specs.State.{TheJoinedJobs}
 use Rattle.fl_cores_shares.specs.declared.shares.CoreShares.{CoreShares}
-use Rattle.fl_cores_shares.specs.Shares.{Holds, AreHandedOut}
-use Rattle.fl_cores_shares.specs.Settled.{TwoSides, sides_of, HoldRings}
+use Rattle.fl_cores_shares.specs.Shares.{Holds}
+use Rattle.fl_cores_shares.specs.Settled.{TwoSides, sides_of}
+use Rattle.fl_history_rings.specs.declared.board.RingEnds.{RingEnds}
+use Rattle.fl_history_shares.specs.declared.dealing.DealtSides.{DealtSides}
+use Rattle.fl_history_shares.specs.Dealt.{Deals}
 use Rattle.fl_world_refines.specs.ShowsState.{NamesQueue, NamesSide}
-use Rattle.fl_cores_fork.specs.Runs.{sides_left, TheFinishedCore, TheCoreThread, RanTo}
+use Rattle.fl_cores_fork.specs.Runs.{TheCoreThread}
 use Rattle.fl_cores_parts.specs.Begins.{Places, common_in, AreCoreThreads}
+use Rattle.fl_cores_parts.specs.AtTable.{AreBetween}
 use Rattle.fl_cores_parts.specs.Shares.{AreOwners, AreShared, AreNewRings, sides_given, queues_given}
 
 -- ---- what is named
@@ -63,27 +65,27 @@ pub record HaveOwners (cores : List TheCore) (Names : TheCore → ℕ → Type 0
 
 -- ---- things handed out
 
--- to so many cores new rings of the sizes of these, with these owners of their sides
-pub record HandsOutRings (rings : List TheDuo) (owners : List ℕ) (cores : ℕ) (d : CoreShares TheSide) : Type 0 where
-  pub pairs : List TwoSides
-  pub new : AreNewRings rings pairs
-  pub holds : Holds d (sides_of pairs)
-  pub owners_are : d.owners.items ≡ owners
-  pub as_many : length d.holdings.items ≡ cores
+-- to so many cores the sides of new rings of the sizes of these, with these owners
+pub record DealsRings (rings : List TheDuo) (owners : List ℕ) (cores : ℕ) (d : DealtSides) : Type 0 where
+  pub ends : List RingEnds
+  pub between : AreBetween rings owners cores ends
+  pub deals : Deals ends cores d
 
 -- these queues, with these owners
-pub record HandsOutQueues (queues : List TheQueue) (owners : List ℕ) (cores : ℕ) (d : CoreShares TheQueue) : Type 0 where
+pub record HandsOutQueues (queues : List TheQueue) (owners : List ℕ) (cores : ℕ)
+    (d : CoreShares TheQueue) : Type 0 where
   pub holds : Holds d queues
   pub owners_are : d.owners.items ≡ owners
   pub as_many : length d.holdings.items ≡ cores
 
 -- both, by what these cores name
-pub record SharesOut (cores : List TheCore) (rs : List TheDuo) (qs : List TheQueue) (s : CoreShares TheSide) (q : CoreShares TheQueue) : Type 0 where
+pub record SharesOut (cores : List TheCore) (rs : List TheDuo) (qs : List TheQueue) (s : DealtSides)
+    (q : CoreShares TheQueue) : Type 0 where
   pub by_sides : List ℕ
   pub by_queues : List ℕ
   pub sides_named : HaveOwners cores NamesSide (2 * length rs) by_sides
   pub queues_named : HaveOwners cores NamesQueue (length qs) by_queues
-  pub sides : HandsOutRings rs by_sides (length cores) s
+  pub sides : DealsRings rs by_sides (length cores) s
   pub queues : HandsOutQueues qs by_queues (length cores) q
 
 -- ---- core threads
@@ -103,12 +105,3 @@ pub record Wirings (p : Parts) (j : TheJoinedJobs) (core_threads : List TheCoreT
   pub places : Places
   pub begin : AreCoreThreads (common_in p j places) 0 p.cores.items core_threads
   pub dealing : Dealing p places core_threads owners
-
--- ---- rings after the run
-
--- where cores ran, the sides of new rings that were handed out to them are still in their owners' hands. Law
-abbrev pub RingsHold : Type 0
-RingsHold = (jobs : List CoreJob) (limit : ℕ) (rings : List TheDuo) (pairs : List TwoSides) (owners : List ℕ)
-    → (core_threads : List TheCoreThread) (outcomes : List TheFinishedCore)
-    → AllZip (RanTo jobs limit) core_threads outcomes → AreNewRings rings pairs → AreHandedOut owners (sides_of pairs) (sides_given core_threads)
-    → HoldRings owners (sides_left outcomes)

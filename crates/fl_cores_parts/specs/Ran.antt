@@ -14,6 +14,7 @@ use Rattle.fl_cores_fork.specs.Tells.{Tells}
 use Rattle.fl_cores_parts.specs.Begins.{Places, common_in, AreCoreThreads}
 use Rattle.fl_cores_parts.specs.Heard.{HeardAsTold}
 use Rattle.fl_cores_parts.specs.Shares.{Shares, AreSound}
+use Rattle.fl_cores_parts.specs.AtTable.{RanAtTable}
 
 -- what a report says of turns
 pub record Keeps (cores limit : ℕ) (r : TheReport) : Type 0 where
@@ -23,7 +24,8 @@ pub record Keeps (cores limit : ℕ) (r : TheReport) : Type 0 where
   -- `turns out` only where a core took all its turns
   pub out : r.ending ≡ turns_out → (core : ℕ) × (slice_get r.turns core ≡ Some limit)
 
--- each core of these parts ran by its plan from what it was given, what they heard of refused openings was told, and the report tells what came of all that
+-- each core of these parts ran by its plan from what it was given, what they heard of refused openings was told, the
+-- report tells what came of all that, and one order has all that was done by sides of rings
 pub record CoresRan (p : Parts) (j : TheJoinedJobs) (limit : ℕ) (r : TheReport) : Type 0 where
   pub core_threads : List TheCoreThread
   pub places : Places
@@ -34,8 +36,10 @@ pub record CoresRan (p : Parts) (j : TheJoinedJobs) (limit : ℕ) (r : TheReport
   pub sound : AreSound core_threads outcomes
   pub heard : HeardAsTold (length j.owners) (seats_left outcomes)
   pub tells : Tells j outcomes r
+  pub order : RanAtTable j.jobs limit p.rings.items shares.side_owners core_threads outcomes
 
--- the jobs, of which none has a fault, were joined to these parts, with the reply rules that are set at once, and then the cores ran
+-- the jobs, of which none has a fault, were joined to these parts, with the reply rules that are set at once, and then
+-- the cores ran
 pub record RanFrom (p : Parts) (jobs : List Job) (limit : ℕ) (r : TheReport) : Type 0 where
   pub joined : TheJoinedJobs
   pub are_joined : AreJoined (length p.cores.items) jobs joined

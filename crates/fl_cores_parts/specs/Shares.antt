@@ -12,8 +12,6 @@ use Rattle.fl_cores_shares.specs.Settled.{TwoSides, sides_of, Each, IsNear}
 use Rattle.fl_cores_fork.specs.Runs.{TheCoreThread, TheFinishedCore, IsLeftSound, sides_left}
 use Rattle.fl_cores_parts.specs.Begins.{Places}
 
--- ---- which sides of rings and which queues a core names
-
 -- ---- whose each thing is
 
 -- of things that cores name by number the core that has each: what one core alone names is that core's
@@ -22,8 +20,10 @@ pub record AreOwners (cores : List TheCore) (Names : TheCore → ℕ → Type 0)
   pub each : (n thing : ℕ) (c : TheCore) → slice_get cores n ≡ Some c → Names c thing → thing < many
       → ((m : ℕ) (d : TheCore) → slice_get cores m ≡ Some d → Names d thing → m ≡ n) → slice_get owners thing ≡ Some n
 
--- things are in their owners' hands, each at the place that is told of it: as many stand before it there as its owner has of smaller numbers
-pub record AreShared {T : Type 0} (owners : List ℕ) (things : List T) (places : List ℕ) (holdings : List (List T)) : Type 0 where
+-- things are in their owners' hands, each at the place that is told of it: as many stand before it there as its owner has
+-- of smaller numbers
+pub record AreShared {T : Type 0} (owners : List ℕ) (things : List T) (places : List ℕ)
+    (holdings : List (List T)) : Type 0 where
   pub handed_out : AreHandedOut owners things holdings
   pub at : AreAt owners things holdings places
   pub apart : AreApart owners places
@@ -48,7 +48,8 @@ queues_given core_threads = map (λ (s : TheCoreThread). s.run.queues) core_thre
 -- ---- the whole
 
 -- what a set-up made is shared out so; and after the run the rings were put together again
-pub record Shares (p : Parts) (at : Places) (core_threads : List TheCoreThread) (outcomes : List TheFinishedCore) : Type 0 where
+pub record Shares (p : Parts) (at : Places) (core_threads : List TheCoreThread)
+    (outcomes : List TheFinishedCore) : Type 0 where
   pub side_owners : List ℕ
   pub sides_named : AreOwners p.cores.items NamesSide (2 * length p.rings.items) side_owners
   pub pairs : List TwoSides
@@ -57,7 +58,8 @@ pub record Shares (p : Parts) (at : Places) (core_threads : List TheCoreThread) 
   pub queue_owners : List ℕ
   pub queues_named : AreOwners p.cores.items NamesQueue (length p.queues.items) queue_owners
   pub queues : AreShared queue_owners p.queues.items at.queues (queues_given core_threads)
-  pub near : (after : List TwoSides) → AreHandedOut side_owners (sides_of after) (sides_left outcomes) → Each IsNear after
+  pub near : (after : List TwoSides) → AreHandedOut side_owners (sides_of after) (sides_left outcomes)
+      → Each IsNear after
 
 -- ---- what cores tell of themselves
 

@@ -11,8 +11,8 @@ use Rattle.fl_cores_fork.specs.CoreThreads.{AllReady, core_thread_of}
 use Rattle.fl_cores_parts.specs.Dealing.{Wirings}
 use Rattle.fl_cores_parts.specs.declared.again.WiredCores.{WiredCores}
 
--- the jobs, of which none has a fault, were joined to these parts, with the reply rules that are set at once, and each core has what its
--- thread works on: as a run of these parts begins
+-- the jobs, of which none has a fault, were joined to these parts, with the reply rules that are set at once, and each
+-- core has what its thread works on: as a run of these parts begins
 pub record WiredFrom (p : Parts) (jobs : List Job) (w : WiredCores) : Type 0 where
   pub are_joined : AreJoined (length p.cores.items) jobs (joined_of w.joined)
   pub are_bound : AreBound p.bindings.items jobs (joined_of w.joined)

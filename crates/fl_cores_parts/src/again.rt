@@ -5,7 +5,7 @@ ghost use Rattle.fl_core_run.specs.Run.{run_of, over};
 ghost use Rattle.fl_cores_file.specs.Views.{job_of};
 ghost use Rattle.fl_cores_jobs.specs.Joined.{AreBindings, HasEndWork};
 ghost use Rattle.fl_cores_jobs.specs.State.{joined_of};
-ghost use Rattle.fl_cores_fork.specs.CoreThreads.{AllReady, core_thread_of};
+ghost use Rattle.fl_cores_fork.specs.CoreThreads.{AllReady, core_thread_of, noted_run};
 ghost use Rattle.fl_cores_parts.specs.Dealing.{Wirings};
 ghost use Rattle.fl_cores_parts.specs.Faults.{by_job, IsRunFault};
 ghost use Rattle.fl_cores_parts.specs.Wired.{WiredFrom};
@@ -78,7 +78,7 @@ pub fn wire_parts(alloc: Global, parts: Parts, jobs: Vec<Job<'_>>) -> Result<Wir
 
 // The core of a thread, over these sides.
 fn core_over<S>(thread: CoreThread, sides: Vec<S>) -> CoreOver<S>
-    ensures running { run_of result.running ≡ over sides.items (run_of thread.running.value) }
+    ensures running { run_of result.running ≡ over sides.items (noted_run thread.running.value) }
     ensures plan { result.plan ≡ thread.plan }
 {
     let CoreThread {

@@ -3,19 +3,20 @@
 ghost use Rattle.std.specs.Prelude.{ℕ, ◌≡◌, ◌<◌, map, length, IfOk, OnOk};
 ghost use Rattle.fl_cores_table.specs.Counter.{Agrees, number_of};
 ghost use Rattle.fl_cores_table.specs.Seats.{knowing};
-ghost use Rattle.fl_cores_fork.specs.Runs.{sides_left, seats_left};
-ghost use Rattle.fl_cores_fork.specs.CoreThreads.{outcome_of};
+ghost use Rattle.fl_history_shares.specs.Dealt.{hands_in};
+ghost use Rattle.fl_cores_fork.specs.Runs.{seats_left};
+ghost use Rattle.fl_cores_fork.specs.CoreThreads.{outcome_of, hands_left};
 ghost use Rattle.fl_cores_parts.specs.Heard.{HeardAsTold};
 ghost use Rattle.fl_cores_parts.specs.CoreThreads.{AreSeats, all_in, IsRest};
 
 use fl_cores_fork::FinishedCore;
 use fl_cores_table::EndSeat;
-use fl_ring::SharedSide;
+use fl_history_sides::HistorySides;
 use std::alloc::{AllocError, Global};
 
 // The sides of rings and the seat that a core has in the end.
-fn parts_of(done: FinishedCore) -> (Vec<SharedSide>, EndSeat)
-    ensures rings { result.0.items ≡ done.core_thread.running.value.rings.items }
+fn parts_of(done: FinishedCore) -> (HistorySides, EndSeat)
+    ensures rings { result.0 ≡ done.core_thread.running.value.rings }
     ensures seat { result.1 ≡ done.core_thread.run_seat.seat }
 {
     let core_thread = done.core_thread;
@@ -30,19 +31,19 @@ fn take_apart(
     alloc: Global,
     own: &mut EndSeat,
     done: Vec<FinishedCore>,
-) -> Result<Vec<Vec<SharedSide>>, AllocError>
+) -> Result<Vec<HistorySides>, AllocError>
     requires some { 0 < own.old.knows.seats }
     requires seats { AreSeats own.old (seats_left (map outcome_of done.items)) }
-    ensures sides { IfOk result (λ holdings. map (λ holding. holding.items) holdings.items ≡ sides_left (map outcome_of done.items)) }
+    ensures hands { IfOk result (λ hands. hands_in hands.items ≡ hands_left done.items) }
     ensures all_in { OnOk result (own.new ≡ knowing own.old (all_in own.old.knows (seats_left (map outcome_of done.items)))) }
 {
-    let mut holdings = Vec::new(alloc);
+    let mut hands = Vec::new(alloc);
     for one in done {
         let (rings, seat) = parts_of(one);
         own.join(seat);
-        holdings.push(rings)?;
+        hands.push(rings)?;
     }
-    Ok(holdings)
+    Ok(hands)
 }
 
 // Asks once for each job's word: as all seats are in this one, that is what was told of the job, and what was heard of it is 0 or this.
@@ -65,13 +66,13 @@ pub(crate) fn gather(
     own: EndSeat,
     jobs: usize,
     done: Vec<FinishedCore>,
-) -> Result<Vec<Vec<SharedSide>>, AllocError>
+) -> Result<Vec<HistorySides>, AllocError>
     requires rest { IsRest own jobs (seats_left (map outcome_of done.items)) }
-    ensures sides { IfOk result (λ holdings. map (λ holding. holding.items) holdings.items ≡ sides_left (map outcome_of done.items)) }
+    ensures hands { IfOk result (λ hands. hands_in hands.items ≡ hands_left done.items) }
     ensures heard { OnOk result (HeardAsTold jobs (seats_left (map outcome_of done.items))) }
 {
     let mut own = own;
-    let holdings = take_apart(alloc, &mut own, done)?;
+    let hands = take_apart(alloc, &mut own, done)?;
     ask_all(&mut own, jobs);
-    Ok(holdings)
+    Ok(hands)
 }

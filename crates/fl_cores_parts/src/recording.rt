@@ -1,9 +1,10 @@
 //! What the sides of a run noted.
 
-ghost use Rattle.std.specs.Prelude.{◌≡◌, true, map, IfOk, IfSome};
-ghost use Rattle.std.specs.List.{All};
+ghost use Rattle.std.specs.Prelude.{◌≡◌, ◌++◌, ◌∷◌, [], true, false, map, None, IfOk, IfSome, OnOk};
+ghost use Rattle.std.specs.List.{All, list_all};
 ghost use Rattle.fl_cores_shares.specs.Noted.{noted_of};
-ghost use Rattle.fl_cores_parts.specs.Recorded.{noted_by, IsRecordOf};
+ghost use Rattle.fl_cores_fork.specs.CoreThreads.{without_records};
+ghost use Rattle.fl_cores_parts.specs.Recorded.{noted_by, sides_in, IsWhole, IsRecordOf};
 
 use fl_cores_fork::FinishedCore;
 use fl_cores_shares::SideRecord;
@@ -23,49 +24,69 @@ pub struct RunRecord {
 pub struct Recording {
     /// Whether a run is to note what it does.
     pub is_on: bool,
-    /// What the last run noted whose cores all ran, also where there was no memory for its report. There is none where it
-    /// wasn't to note, or where there was no memory to note all.
+    /// What the last run noted whose cores all ran, also where there was no memory for its report. There is none where
+    /// it wasn't to note, or where there was no memory to note all.
     pub record: Option<RunRecord>,
 }
 
-// What sides noted, once more. Where they hadn't the memory to note all, that is told as no memory here.
-fn copies_of(alloc: Global, noted: &[SideRecord]) -> Result<Vec<SideRecord>, AllocError>
-    ensures same { IfOk result (λ v. map noted_of v.items ≡ map noted_of noted.now) }
-    ensures whole { IfOk result (λ v. All (λ r. r.is_whole ≡ true) v.items) }
+fn is_whole(record: &SideRecord) -> bool
+    ensures whole { result ≡ record.now.is_whole }
 {
-    let mut records = Vec::new(alloc);
-    for record in noted {
-        let copy = record.duplicate(alloc)?;
-        if !copy.is_whole {
-            return Err(AllocError);
-        }
-        records.push(copy)?;
+    record.is_whole
+}
+
+// Whether sides noted all.
+fn are_whole(records: &[SideRecord]) -> bool
+    ensures whole { result ≡ list_all (λ r. r.is_whole) records.now }
+{
+    records.iter().all(is_whole)
+}
+
+// What the sides of a core noted, moved out of it. Where they hadn't the memory to note all, that is told as no memory
+// here.
+fn take_records(core: &mut FinishedCore) -> Result<Vec<SideRecord>, AllocError>
+    ensures noted { IfOk result (λ v. map noted_of v.items ≡ noted_by core.old) }
+    ensures whole { IfOk result (λ v. All (λ r. r.is_whole ≡ true) v.items) }
+    ensures same { without_records core.new ≡ without_records core.old }
+{
+    let Some(records) = core.records.take() else {
+        return Err(AllocError);
+    };
+    if !are_whole(&records) {
+        return Err(AllocError);
     }
     Ok(records)
 }
 
-// What the sides of a core noted.
-fn records_of(alloc: Global, core: &FinishedCore) -> Result<Vec<SideRecord>, AllocError>
-    ensures noted { IfOk result (λ v. map noted_of v.items ≡ noted_by core.now) }
-    ensures whole { IfOk result (λ v. All (λ r. r.is_whole ≡ true) v.items) }
-{
-    match &core.records {
-        None => Err(AllocError),
-        Some(noted) => copies_of(alloc, noted),
+impl RunRecord {
+    // Adds how many turns a core counted, and what its sides noted, moved out of it.
+    fn add(&mut self, core: &mut FinishedCore) -> Result<(), AllocError>
+        ensures turns { OnOk result (self.new.turns.items ≡ self.old.turns.items ++ core.old.part.turns ∷ []) }
+        ensures sides { OnOk result (sides_in self.new ≡ sides_in self.old ++ noted_by core.old ∷ []) }
+        ensures whole { OnOk result (IsWhole self.old → IsWhole self.new) }
+        ensures same { without_records core.new ≡ without_records core.old }
+    {
+        let records = take_records(core)?;
+        self.turns.push(core.part.turns)?;
+        self.sides.push(records)?;
+        Ok(())
     }
 }
 
-// What cores that ran noted, once more.
-fn record_of(alloc: Global, done: &[FinishedCore]) -> Result<RunRecord, AllocError>
-    ensures record { IfOk result (IsRecordOf done.now) }
+// What cores that ran noted, moved out of them.
+#[tactic(auto, using(crate::proofs::Moved::others_stay))]
+fn take_record(alloc: Global, done: &mut [FinishedCore]) -> Result<RunRecord, AllocError>
+    ensures record { IfOk result (IsRecordOf done.old) }
+    ensures same { map without_records done.new ≡ map without_records done.old }
 {
-    let mut turns = Vec::new(alloc);
-    let mut sides = Vec::new(alloc);
-    for core in done {
-        turns.push(core.part.turns)?;
-        sides.push(records_of(alloc, core)?)?;
+    let mut taken = RunRecord {
+        turns: Vec::new(alloc),
+        sides: Vec::new(alloc),
+    };
+    for core in 0..done.len() {
+        taken.add(&mut done[core])?;
     }
-    Ok(RunRecord { turns, sides })
+    Ok(taken)
 }
 
 impl Recording {
@@ -79,14 +100,17 @@ impl Recording {
         }
     }
 
-    /// Puts what the sides of cores that ran noted in place of what an earlier run noted.
-    pub(crate) fn put(&mut self, alloc: Global, done: &[FinishedCore])
+    /// Puts what the sides of cores that ran noted in place of what an earlier run noted: it is moved out of the cores,
+    /// which stay as they were else. Where the recording is off, nothing is put there.
+    pub(crate) fn put(&mut self, alloc: Global, done: &mut [FinishedCore])
         ensures on { self.new.is_on ≡ self.old.is_on }
-        ensures record { IfSome self.new.record (IsRecordOf done.now) }
+        ensures record { IfSome self.new.record (IsRecordOf done.old) }
+        ensures off { self.old.is_on ≡ false → self.new.record ≡ None }
+        ensures same { map without_records done.new ≡ map without_records done.old }
     {
         self.record = None;
         if self.is_on {
-            self.record = record_of(alloc, done).ok();
+            self.record = take_record(alloc, done).ok();
         }
     }
 }

@@ -1,16 +1,17 @@
 //! A run of parts, from their jobs to the report.
 
 ghost use Rattle.std.specs.Prelude.{◌≡◌, ◌≤◌, List, map, length, IfOk, IfErr, OnOk};
-ghost use Rattle.fl_cores_shares.specs.Shares.{AreHandedOut};
-ghost use Rattle.fl_cores_shares.specs.Settled.{TwoSides, sides_of, Each, IsNear, HoldRings};
+ghost use Rattle.atomic_table.specs.Seated.{TableId};
+ghost use Rattle.fl_history_rings.specs.declared.board.SideEnd.{SideEnd};
+ghost use Rattle.fl_history_shares.specs.Settled.{AreAt, AreAtOne, AreSettled};
 ghost use Rattle.fl_cores_table.specs.Counter.{opening_view};
 ghost use Rattle.fl_cores_file.specs.Reports.{report_of};
 ghost use Rattle.fl_cores_file.specs.Views.{job_of};
 ghost use Rattle.fl_cores_jobs.specs.Joined.{AreBindings, HasEndWork};
 ghost use Rattle.fl_cores_jobs.specs.State.{joined_of};
-ghost use Rattle.fl_cores_fork.specs.Runs.{sides_left, seats_left};
+ghost use Rattle.fl_cores_fork.specs.Runs.{seats_left};
 ghost use Rattle.fl_cores_fork.specs.Tells.{Tells};
-ghost use Rattle.fl_cores_fork.specs.CoreThreads.{outcome_of};
+ghost use Rattle.fl_cores_fork.specs.CoreThreads.{outcome_of, hands_left};
 ghost use Rattle.fl_cores_fork.specs.Taking.{HavePlaces};
 ghost use Rattle.fl_cores_parts.specs.Faults.{IsRunFault};
 ghost use Rattle.fl_cores_parts.specs.Heard.{HeardAsTold};
@@ -19,7 +20,7 @@ ghost use Rattle.fl_cores_parts.specs.Ran.{Keeps, CoresRan, RanFrom};
 
 use crate::fault::RunFault;
 use crate::recording::Recording;
-use crate::settling::{law_rings_hold, put_together};
+use crate::settling::put_together;
 use crate::wiring::wire;
 use fl_core_run::Gate;
 use fl_cores_file::{Job, Report};
@@ -60,29 +61,28 @@ pub(crate) fn seat_of_all(
     EndSeat::new(alloc, plan)
 }
 
-// The report of cores that ran. Their seats are put in the run's own, and their rings together again; the jobs' calls are in the report then.
+// The report of cores that ran. Their seats are put in the run's own, and they are gathered at their table; the jobs' calls are in the report then.
 fn report_on(
     alloc: Global,
     joined: &mut JoinedJobs,
     own: EndSeat,
-    owners: Vec<usize>,
     done: Vec<FinishedCore>,
 ) -> Result<Report, AllocError>
     requires few { length joined.old.bindings.items ≤ 1024 }
     requires end_works { HasEndWork joined.old.bindings.items joined.old.end_works.items }
     requires places { HavePlaces (joined_of joined.old).end_works joined.old.jobs.items }
     requires rest { IsRest own (length joined.old.owners.items) (seats_left (map outcome_of done.items)) }
-    requires rings { HoldRings owners.items (sides_left (map outcome_of done.items)) }
+    requires one { AreAtOne (hands_left done.items) }
     ensures tells { IfOk result (λ r. Tells (joined_of joined.old) (map outcome_of done.items) (report_of r)) }
     ensures heard { OnOk result (HeardAsTold (length joined.old.owners.items) (seats_left (map outcome_of done.items))) }
-    ensures near { OnOk result ((after : List TwoSides) → AreHandedOut owners.items (sides_of after) (sides_left (map outcome_of done.items))
-        → Each IsNear after) }
+    ensures settled { OnOk result ((table : TableId) (ends : List SideEnd) → AreAt table ends (hands_left done.items)
+        → AreSettled ends (hands_left done.items)) }
 {
     let mut done = done;
     let jobs = mem::replace(&mut joined.jobs, Vec::new(alloc));
     let report = tell(alloc, jobs, joined, &mut done)?;
     let count = joined.owners.as_slice().len();
-    put_together(alloc, own, count, owners, done)?;
+    put_together(alloc, own, count, done)?;
     Ok(report)
 }
 
@@ -105,7 +105,6 @@ fn run_joined<R: Threads + Wait + Sync, G: Gate + Sync>(
     let mut joined = joined;
     let mut own = seat_of_all(alloc, parts.cores.as_slice().len(), &joined.owners)?;
     let wired = wire(alloc, parts, &joined, &mut own)?;
-    law_rings_hold();
     let (ran, own) = run_each(
         rt,
         alloc,
@@ -116,9 +115,9 @@ fn run_joined<R: Threads + Wait + Sync, G: Gate + Sync>(
         limit,
         recording.is_on,
     );
-    let done = ran?;
-    recording.put(alloc, &done);
-    Ok(report_on(alloc, &mut joined, own, wired.owners, done)?)
+    let mut done = ran?;
+    recording.put(alloc, &mut done);
+    Ok(report_on(alloc, &mut joined, own, done)?)
 }
 
 /// Runs the cores of a world's parts on threads of their own, each with its jobs, until each has finished or

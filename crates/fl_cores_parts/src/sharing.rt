@@ -1,16 +1,19 @@
-//! Whose each side of a ring and each queue is, and all of them handed out out.
+//! Whose each side of a ring and each queue is, and all of them handed out.
 
-ghost use Rattle.std.specs.Prelude.{◌≡◌, ◌+◌, ◌*◌, ◌<◌, length, slice_get, slice_set, Some, IfOk};
-ghost use Rattle.fl_cores_parts.specs.Dealing.{IsLinkSide, TakesSide, TakesQueue, PutsQueue, Below, Owns, AreOf, HaveOwners, HandsOutRings, HandsOutQueues};
-ghost use Rattle.fl_cores_shares.specs.Shares.{HandsOut};
+ghost use Rattle.std.specs.Prelude.{◌≡◌, ◌≢◌, ◌+◌, ◌*◌, ◌<◌, length, slice_get, slice_set, Some, IfOk, OnOk};
+ghost use Rattle.fl_cores_parts.specs.Dealing.{IsLinkSide, TakesSide, TakesQueue, PutsQueue, Below, Owns, AreOf, HaveOwners, DealsRings, HandsOutQueues};
+ghost use Rattle.fl_ring.specs.Duo.{MayHaveSlots};
+ghost use Rattle.fl_cores_parts.specs.AtTable.{AreBetween};
 ghost use Rattle.fl_world_refines.specs.ShowsState.{NamesQueue, NamesSide};
 
-use fl_base::LinkId;
+use fl_base::{LinkId, MAX_QUEUE};
 use fl_core::{Core, Inlet, Outlet};
 use fl_cores_shares::CoreShares;
+use fl_history_rings::RingEnds;
+use fl_history_shares::{DealtSides, deal};
 use fl_hop::{MAX_LINKS, law_never_shared};
 use fl_link::QueueLink;
-use fl_ring::{OneDuo, SharedSide};
+use fl_ring::OneDuo;
 use std::alloc::{AllocError, Global};
 
 // ---- owners
@@ -150,45 +153,61 @@ impl SideOwners {
     }
 }
 
-// ---- dealing
+// ---- handing out
 
-// A new ring of the size of this one, whose sides go to these cores.
-fn hand_out_ring(
-    alloc: Global,
-    handed_out: CoreShares<SharedSide>,
-    ring: &OneDuo,
-    first: usize,
-    second: usize,
-) -> Result<CoreShares<SharedSide>, AllocError>
-    requires first { first < length handed_out.holdings.items }
-    requires second { second < length handed_out.holdings.items }
-    ensures hands_out { IfOk result (λ d. HandsOut ring.now.size first second handed_out d) }
+// A ring of the size of this one, whose sides are these cores'.
+fn ring_between(ring: &OneDuo, first: usize, second: usize) -> Result<RingEnds, AllocError>
+    ensures slots { IfOk result (λ r. r.slots ≡ ring.now.size) }
+    ensures may { OnOk result (MayHaveSlots ring.now.size) }
+    ensures first { IfOk result (λ r. r.first ≡ first) }
+    ensures second { IfOk result (λ r. r.second ≡ second) }
+    ensures apart { OnOk result (first ≢ second) }
 {
-    let size = ring.words().len() / 16;
-    match handed_out.hand_out(alloc, size, first, second) {
-        Ok(handed_out) => Ok(handed_out),
-        Err(_) => Err(AllocError),
+    let slots = ring.words().len() / 16;
+    // No set-up has a ring of other slots, or with both sides at one core.
+    if slots < 4 || slots > MAX_QUEUE || !slots.is_power_of_two() || first == second {
+        return Err(AllocError);
     }
+    Ok(RingEnds {
+        slots,
+        first,
+        second,
+    })
 }
 
-/// New rings of the same sizes, whose sides go to their cores.
-pub(crate) fn hand_out_sides(
+// Rings of the same sizes, whose sides have these owners.
+fn ring_ends(
     alloc: Global,
     rings: &[OneDuo],
     owners: &[usize],
     cores: usize,
-) -> Result<CoreShares<SharedSide>, AllocError>
+) -> Result<Vec<RingEnds>, AllocError>
     requires count { length owners.now ≡ 2 * length rings.now }
     requires of { AreOf cores owners.now }
-    ensures hands_out { IfOk result (λ d. HandsOutRings rings.now owners.now cores d) }
+    ensures between { IfOk result (λ ends. AreBetween rings.now owners.now cores ends.items) }
 {
-    let mut handed_out = CoreShares::new(alloc, cores)?;
+    let mut ends = Vec::new(alloc);
     let mut place = 0;
     for ring in rings {
-        handed_out = hand_out_ring(alloc, handed_out, ring, owners[place], owners[place + 1])?;
+        ends.push(ring_between(ring, owners[place], owners[place + 1])?)?;
         place += 2;
     }
-    Ok(handed_out)
+    Ok(ends)
+}
+
+/// New rings of the same sizes, whose sides go to their cores.
+pub(crate) fn deal_sides(
+    alloc: Global,
+    rings: &[OneDuo],
+    owners: &[usize],
+    cores: usize,
+) -> Result<DealtSides, AllocError>
+    requires count { length owners.now ≡ 2 * length rings.now }
+    requires of { AreOf cores owners.now }
+    ensures deals { IfOk result (DealsRings rings.now owners.now cores) }
+{
+    let ends = ring_ends(alloc, rings, owners, cores)?;
+    deal(alloc, &ends, cores)
 }
 
 /// The queues go to their cores.

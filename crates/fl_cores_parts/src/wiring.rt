@@ -8,14 +8,16 @@ ghost use Rattle.fl_core_run.specs.OpeningStatus.{AreWords, word_by};
 ghost use Rattle.fl_core_run.specs.declared.opening_status.OpeningStatus.TheVariants.{Tells, Hears};
 ghost use Rattle.fl_cores_jobs.specs.Joined.{AreBindings, HasEndWork, core_at};
 ghost use Rattle.fl_cores_jobs.specs.State.{joined_of};
-ghost use Rattle.fl_cores_fork.specs.CoreThreads.{IsReady, AllReady, core_thread_of};
+ghost use Rattle.fl_history_shares.specs.Dealt.{hands_in};
+ghost use Rattle.fl_cores_fork.specs.CoreThreads.{IsReady, AllReady, core_thread_of, hands_given};
 ghost use Rattle.fl_cores_parts.specs.Begins.{owns, ends_at, ends_from, words_at, words_of, links_below, progress_for, progresses_of};
 ghost use Rattle.fl_cores_parts.specs.Begins.{IsAlone, IsCoreThread, AreCoreThreads};
-ghost use Rattle.fl_cores_parts.specs.Shares.{sides_given, queues_given};
+ghost use Rattle.fl_cores_parts.specs.AtTable.{BeginAtTable};
+ghost use Rattle.fl_cores_parts.specs.Shares.{queues_given};
 ghost use Rattle.fl_cores_parts.specs.Dealing.{SharesOut, Wirings};
 ghost use Rattle.fl_cores_parts.specs.CoreThreads.{core_share, stationed, AddsCoreThread, common_of, seats_given, AreSeats, left_view};
 
-use crate::sharing::{SideOwners, hand_out_queues, hand_out_sides};
+use crate::sharing::{SideOwners, deal_sides, hand_out_queues};
 use fl_base::{EndId, LinkId, Side};
 use fl_compact_calls::NumberCall;
 use fl_compile::Program;
@@ -25,10 +27,12 @@ use fl_cores_fork::{CoreThread, core_at};
 use fl_cores_jobs::{BindingCores, JoinedJobs};
 use fl_cores_shares::CoreShares;
 use fl_cores_table::EndSeat;
+use fl_history_shares::DealtSides;
+use fl_history_sides::HistorySides;
 use fl_hop::{Circuits, law_never_shared};
 use fl_link::QueueLink;
 use fl_nameserv::Names;
-use fl_ring::{OneDuo, SharedSide};
+use fl_ring::OneDuo;
 use fl_world_refines::Parts;
 use std::alloc::{AllocError, Global};
 
@@ -241,13 +245,13 @@ impl CoreInputs<'_> {
         &self,
         k: usize,
         core: Core,
-        rings: Vec<SharedSide>,
+        rings: HistorySides,
         queues: Vec<QueueLink>,
-    ) -> Result<Box<RunningCore<Vec<SharedSide>>>, AllocError>
+    ) -> Result<Box<RunningCore<HistorySides>>, AllocError>
         requires few { length self.now.joined.now.bindings.items ≤ 1024 }
         requires end_works { HasEndWork self.now.joined.now.bindings.items self.now.joined.now.end_works.items }
         ensures core { IfOk result (λ r. r.value.core ≡ core) }
-        ensures rings { IfOk result (λ r. r.value.rings.items ≡ rings.items) }
+        ensures rings { IfOk result (λ r. r.value.rings ≡ rings) }
         ensures queues { IfOk result (λ r. r.value.queues.items ≡ queues.items) }
         ensures progresses { IfOk result (λ r. r.value.progresses.items ≡ progresses_of k (joined_of self.now.joined.now)) }
         ensures names { IfOk result (λ r. r.value.names ≡ self.now.names.now) }
@@ -274,7 +278,7 @@ impl CoreInputs<'_> {
         &self,
         k: usize,
         core: Core,
-        rings: Vec<SharedSide>,
+        rings: HistorySides,
         queues: Vec<QueueLink>,
         seat: EndSeat,
     ) -> Result<CoreThread, AllocError>
@@ -284,7 +288,7 @@ impl CoreInputs<'_> {
         ensures ready { IfOk result IsReady }
         ensures core_thread { IfOk result (λ s. IsCoreThread (common_of self.now) k core (core_thread_of s)) }
         ensures seat { IfOk result (λ s. s.run_seat.seat ≡ seat) }
-        ensures rings { IfOk result (λ s. s.running.value.rings.items ≡ rings.items) }
+        ensures rings { IfOk result (λ s. s.running.value.rings ≡ rings) }
         ensures queues { IfOk result (λ s. s.running.value.queues.items ≡ queues.items) }
     {
         let mut running = self.running(k, core, rings, queues)?;
@@ -304,14 +308,14 @@ impl CoreInputs<'_> {
         core_threads: &mut Vec<CoreThread>,
         own: &mut EndSeat,
         core: Core,
-        rings: Vec<SharedSide>,
+        rings: HistorySides,
         queues: Vec<QueueLink>,
     ) -> Result<(), AllocError>
         requires bindings { AreBindings self.now.cores self.now.joined.now.bindings.items self.now.joined.now.owners.items }
         requires end_works { HasEndWork self.now.joined.now.bindings.items self.now.joined.now.end_works.items }
         requires few { length core_threads.old.items < self.now.cores }
         requires own { own.old.knows ≡ left_view self.now.cores self.now.joined.now.owners.items (length core_threads.old.items) }
-        ensures adds { OnOk result (AddsCoreThread (common_of self.now) (core_share core rings.items queues.items)
+        ensures adds { OnOk result (AddsCoreThread (common_of self.now) (core_share core rings queues.items)
             (stationed own.old core_threads.old.items) (stationed own.new core_threads.new.items)) }
     {
         let k = core_threads.as_slice().len();
@@ -325,7 +329,7 @@ impl CoreInputs<'_> {
         &self,
         own: &mut EndSeat,
         cores: Vec<Core>,
-        sides: Vec<Vec<SharedSide>>,
+        sides: Vec<HistorySides>,
         queues: Vec<Vec<QueueLink>>,
     ) -> Result<Vec<CoreThread>, AllocError>
         requires bindings { AreBindings self.now.cores self.now.joined.now.bindings.items self.now.joined.now.owners.items }
@@ -339,7 +343,7 @@ impl CoreInputs<'_> {
         ensures left { OnOk result (own.new.knows ≡ left_view self.now.cores self.now.joined.now.owners.items (length cores.items)) }
         ensures table { OnOk result (own.new.table ≡ own.old.table) }
         ensures seats { IfOk result (λ v. AreSeats own.old (seats_given (map core_thread_of v.items))) }
-        ensures sides { IfOk result (λ v. sides_given (map core_thread_of v.items) ≡ map (λ holding. holding.items) sides.items) }
+        ensures hands { IfOk result (λ v. hands_given v.items ≡ hands_in sides.items) }
         ensures queues { IfOk result (λ v. queues_given (map core_thread_of v.items) ≡ map (λ holding. holding.items) queues.items) }
     {
         let mut cores = cores;
@@ -363,7 +367,7 @@ impl CoreInputs<'_> {
 // New rings and the queues of a set-up, each handed out to the core that names it.
 #[derive(Drop)]
 struct LinkShares {
-    sides: CoreShares<SharedSide>,
+    sides: DealtSides,
     queues: CoreShares<QueueLink>,
 }
 
@@ -378,7 +382,7 @@ fn share(
 {
     let by_name = SideOwners::from_names(alloc, rings.len(), queues.as_slice().len(), cores)?;
     Ok(LinkShares {
-        sides: hand_out_sides(alloc, rings, &by_name.sides, cores.len())?,
+        sides: deal_sides(alloc, rings, &by_name.sides, cores.len())?,
         queues: hand_out_queues(alloc, queues, &by_name.queues, cores.len())?,
     })
 }
@@ -402,6 +406,7 @@ pub(crate) fn wire(
     requires own { own.old.knows ≡ opening_view (length parts.cores.items) joined.now.owners.items }
     ensures ready { IfOk result (λ w. AllReady w.core_threads.items) }
     ensures wires { IfOk result (λ w. Wirings parts (joined_of joined.now) (map core_thread_of w.core_threads.items) w.owners.items) }
+    ensures at { IfOk result (λ w. BeginAtTable parts.rings.items w.owners.items (length parts.cores.items) (hands_given w.core_threads.items)) }
     ensures left { OnOk result (own.new.knows ≡ left_view (length parts.cores.items) joined.now.owners.items (length parts.cores.items)) }
     ensures able { OnOk result (own.new.knows.stopped < own.new.knows.seats) }
     ensures table { OnOk result (own.new.table ≡ own.old.table) }
@@ -420,8 +425,8 @@ pub(crate) fn wire(
         return Err(AllocError);
     }
     let LinkShares { sides, queues } = share(alloc, &rings, queues, &cores)?;
-    let owners = sides.owners;
-    let side_holdings = sides.holdings;
+    let DealtSides { numbers, sides } = sides;
+    let owners = numbers.owners;
     let queue_holdings = queues.holdings;
     let common = CoreInputs {
         alloc,
@@ -429,10 +434,10 @@ pub(crate) fn wire(
         joined,
         names: &names,
         programs: &programs,
-        sides: &sides.places,
+        sides: &numbers.places,
         queues: &queues.places,
     };
-    let core_threads = common.core_threads(own, cores, side_holdings, queue_holdings)?;
+    let core_threads = common.core_threads(own, cores, sides, queue_holdings)?;
     Ok(WiredThreads {
         core_threads,
         owners,

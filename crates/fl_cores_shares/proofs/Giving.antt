@@ -5,9 +5,8 @@ use Rattle.std.specs.Prelude.{unwrap_or}
 use Rattle.std.proofs.lemmas.List.{append-nil, append_assoc, length-append}
 use Rattle.std.proofs.lemmas.Option.{slice_get_within, slice_get-get_or}
 use Rattle.std.proofs.lemmas.Bool.Decides.{nat_tests}
-use Rattle.fl_ring.specs.SharedSides.{TheSide}
 use Rattle.fl_cores_shares.specs.declared.shares.CoreShares.{CoreShares}
-use Rattle.fl_cores_shares.specs.Shares.{Holdings, holding_at, own_things, own_before, AreHandedOut, IsAt, AreAt, AreApart, AreCounted, holdings_in, Holds, Gives, AreNew, HandsOut}
+use Rattle.fl_cores_shares.specs.Shares.{Holdings, holding_at, own_things, own_before, AreHandedOut, IsAt, AreAt, AreApart, AreCounted, holdings_in, Holds, Gives}
 use Rattle.fl_cores_shares.specs.Giving.{given_to}
 use Rattle.fl_cores_shares.proofs.Places.{next_test, none_before, none_behind, self_test, stays_at, last_at, one_more}
 
@@ -209,16 +208,6 @@ gives {T} owner thing d d2 there holdings owners places count count2 = record {
             (subst (λ (os : List ℕ). AreCounted os (d.places.items ++ length (holding_at (holdings_in d) owner) ∷ [])) (sym owners)
             (counted_more d.owners.items things (holdings_in d) d.places.items owner holds.handed_out holds.numbered holds.counted));
       };
-}
-
-pub hands_out : (size first second : ℕ) (d m d2 : CoreShares TheSide) (one two : TheSide) → AreNew size one two → Gives first one d m → Gives second two m d2 → HandsOut size first second d d2
-hands_out size first second d m d2 one two new a b = record {
-  one = one;
-  two = two;
-  new = new;
-  cores = b.cores ∙ a.cores;
-  owners = b.owners ∙ ap (λ (os : List ℕ). os ++ second ∷ []) a.owners ∙ append_assoc d.owners.items (first ∷ []) (second ∷ []);
-  holds = λ sides h. subst (Holds d2) (append_assoc sides (one ∷ []) (two ∷ [])) (b.holds (sides ++ one ∷ []) (a.holds sides h));
 }
 
 -- ---- empty hands

@@ -1,5 +1,4 @@
 pub mod Places
 pub mod Giving
-pub mod Taking
 pub mod Going
 pub mod Conserving

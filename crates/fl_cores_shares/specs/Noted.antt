@@ -1,7 +1,7 @@
 -- What a side of a ring noted, in numbers.
 use Rattle.std.specs.Prelude.{ℕ, Bool, true, List, []}
-use Rattle.fl_cores_shares.specs.declared.recorded_side.FragmentWait.{FragmentWait}
-use Rattle.fl_cores_shares.specs.declared.recorded_side.SideRecord.{SideRecord}
+use Rattle.fl_cores_shares.specs.declared.side_record.FragmentWait.{FragmentWait}
+use Rattle.fl_cores_shares.specs.declared.side_record.SideRecord.{SideRecord}
 
 pub record TheSideRecord : Type 0 where
   -- how many fragments of the other side it saw, and how many it took

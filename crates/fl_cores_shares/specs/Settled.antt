@@ -40,19 +40,10 @@ abbrev pub Each : (TwoSides → Type 0) → List TwoSides → Type 0
 Each P [] = Unit {0}
 Each P (p ∷ pairs) = P p × Each P pairs
 
-abbrev pub IsRing : TwoSides → Type 0
-IsRing p = p.one.ring ≡ p.two.ring
-
 -- what each side took is the first of what the other put
 pub record IsNear (p : TwoSides) : Type 0 where
   pub forth : SidesNear p.one p.two
   pub back : SidesNear p.two p.one
-
--- the hands hold the sides of some rings
-pub record HoldRings (owners : List ℕ) (holdings : Holdings TheSide) : Type 0 where
-  pub pairs : List TwoSides
-  pub handed_out : AreHandedOut owners (sides_of pairs) holdings
-  pub rings : Each IsRing pairs
 
 -- ---- laws
 

@@ -1,4 +1,4 @@
--- Which things each core has in its hand: sides of rings, or queues. A thing is known by its number; the sides of ring n are number 2 n and 2 n + 1.
+-- Which things each core has in its hand: sides of rings, or queues. A thing is known by its number.
 use Rattle.std.specs.Prelude.{ℕ, ◌≡◌, ◌==◌, zero, suc, if◌then◌else◌, List, [], ◌∷◌, ◌++◌, length, map, slice_get, unwrap_or, Some}
 use Rattle.fl_ring.specs.SharedSides.{TheSide, started_side}
 use Rattle.fl_ring.specs.declared.shared.duo_board.SeatHolder.TheVariants.{One, Two}
@@ -68,12 +68,3 @@ pub record Gives {T : Type 0} (owner : ℕ) (thing : T) (d d2 : CoreShares T) : 
 pub record AreNew (size : ℕ) (one two : TheSide) : Type 0 where
   pub one_is : one ≡ started_side two.ring One size 0
   pub two_is : two ≡ started_side two.ring Two size 0
-
--- one ring more, a new one of this size, with these owners
-pub record HandsOut (size first second : ℕ) (d d2 : CoreShares TheSide) : Type 0 where
-  pub one : TheSide
-  pub two : TheSide
-  pub new : AreNew size one two
-  pub cores : length d2.holdings.items ≡ length d.holdings.items
-  pub owners : d2.owners.items ≡ d.owners.items ++ first ∷ second ∷ []
-  pub holds : (sides : List TheSide) → Holds d sides → Holds d2 (sides ++ one ∷ two ∷ [])

@@ -1,23 +1,18 @@
-//! The sides of rings between cores, and queues: handed out to them before they run on threads of their own. The sides are
-//! put together again afterwards.
+//! Things handed out to cores before they run on threads of their own, as queues; and what sides of rings note and come to.
 //!
 //! Contract for the layers above: a [`CoreShares`] holds things, each in the hand of its core, at the place that is told
-//! (`specs/Shares.antt`): queues ([`CoreShares::give`]), or the sides of new rings ([`CoreShares::deal`]). The cores take
-//! the hands and use their sides; [`settle`] takes them back, and then of each ring what each side took is the first of
-//! what the other put (`specs/Settled.antt`, which has the laws for that, too).
+//! (`specs/Shares.antt`). What sides of rings come to that were in the hands of cores is told by laws
+//! (`specs/Settled.antt`).
 //!
 //! - `shares.rt`: things handed out
-//! - `recorded_side.rt`: a side of a ring that notes what its looks and puts come to
-//! - `settling.rt`: sides put together again
+//! - `side_record.rt`: what the looks and puts of a side of a ring came to
 //! - `law.rt`: what holds of sides in use
 #![tactic(auto)]
 
 mod law;
-mod recorded_side;
-mod settling;
 mod shares;
+mod side_record;
 
 pub use law::{law_handed_out_go_on, law_rings_conserve};
-pub use recorded_side::{FragmentWait, RecordedSide, SideRecord};
-pub use settling::settle;
 pub use shares::CoreShares;
+pub use side_record::{FragmentWait, SideRecord};

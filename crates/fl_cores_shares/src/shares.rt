@@ -1,14 +1,12 @@
-//! Things handed out to cores: sides of rings, and queues.
+//! Things handed out to cores: queues, and numbers of sides of rings.
 
-ghost use Rattle.std.specs.Prelude.{◌≡◌, ◌<◌, ◌∷◌, ◌++◌, ◌↔◌, [], length, map, replicate, IfOk, OnOk, Err};
-ghost use Rattle.fl_cores_shares.specs.Shares.{holding_at, Holds, Gives, HandsOut};
+ghost use Rattle.std.specs.Prelude.{◌≡◌, ◌<◌, [], length, map, IfOk, OnOk};
+ghost use Rattle.fl_cores_shares.specs.Shares.{holding_at, Holds, Gives};
 ghost use Rattle.fl_cores_shares.specs.Giving.{given_to};
-ghost use Rattle.fl_ring.specs.Duo.{MayHaveSlots};
 
-use fl_ring::{RingFault, SharedSide, duo};
 use std::alloc::{AllocError, Global};
 
-/// Things that are handed out to cores. A thing is known by its number, from 0 in the order of dealing: the sides of ring n are number 2 n and 2 n + 1.
+/// Things that are handed out to cores. A thing is known by its number, from 0 in the order in which they were handed out.
 #[derive(Drop)]
 pub struct CoreShares<T> {
     /// By thing, the core that has it.
@@ -64,34 +62,6 @@ impl<T: Drop> CoreShares<T> {
         let place = give(&mut handed_out.holdings, owner, thing)?;
         handed_out.owners.push(owner)?;
         handed_out.places.push(place)?;
-        Ok(handed_out)
-    }
-}
-
-impl CoreShares<SharedSide> {
-    /// A new ring of `size` slots each way, whose sides go to these cores.
-    ///
-    /// # Errors
-    /// A ring may not have so many slots (E32), or out of memory (E99).
-    pub fn hand_out(
-        self,
-        alloc: Global,
-        size: usize,
-        first: usize,
-        second: usize,
-    ) -> Result<CoreShares<SharedSide>, RingFault>
-        requires first { first < length self.holdings.items }
-        requires second { second < length self.holdings.items }
-        ensures hands_out { IfOk result (λ d. HandsOut size first second self d) }
-        ensures bad_size { (result ≡ Err RingFault.BadSize) ↔ (¬ MayHaveSlots size) }
-    {
-        let (one, two) = duo(alloc, size)?;
-        let Ok(handed_out) = self.give(first, one) else {
-            return Err(RingFault::Memory);
-        };
-        let Ok(handed_out) = handed_out.give(second, two) else {
-            return Err(RingFault::Memory);
-        };
         Ok(handed_out)
     }
 }

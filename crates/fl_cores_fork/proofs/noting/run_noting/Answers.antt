@@ -1,11 +1,18 @@
-use Rattle.std.proofs.lemmas.Result.{IfOk-weaker}
-use Rattle.fl_core_run.specs.Run.{run_of}
-use Rattle.fl_cores_fork.proofs.RanOver.{ran_over}
+use Rattle.std.proofs.Common.{rules, of_calls, subst}
+use Rattle.fl_core_run.specs.declared.running.RunningCore.{RunningCore}
+use Rattle.fl_history_sides.specs.declared.sides.HistorySides.{HistorySides}
+use Rattle.fl_cores_fork.specs.CoreThreads.{noted_run, RanNoted}
+use Rattle.fl_cores_fork.proofs.RanOver.{ran_to}
 use Rattle.fl_cores_fork.proofs.noting.run_noting.Goals as goal
 
-pub returns-in-Ok : goal.returns-in-Ok
-returns-in-Ok g c = record {
-  ran = IfOk-weaker c.finished.result _ _ (λ d is. ran_over c.args.jobs.now c.args.limit c.args.core_thread (run_of c.over_noting-running.result)
-      (run_of c.run_over.new.running) c.run_over.new.run_seat c.in-Ok.part d c.over_noting-running.ensures.same c.in-Ok.ensures.ran c.in-Ok.ensures.left is)
-      c.finished.ensures.outcome;
-}
+pub returns : goal.returns
+returns g c =
+    let left = c.replace_with-noted.new.dest in
+    let came = c.in_ok-part.field-0 in
+    let ran : RanNoted c.args.jobs.now c.args.limit c.args.core_thread.plan (noted_run c.deref_mut.result.now) c.args.core_thread.run_seat came.part
+    (noted_run left) came.run_seat = search (rules, of_calls) in
+    record {
+      ran = ran_to c.args.jobs.now c.args.limit c.args.core_thread _
+          (subst (λ (run : RunningCore HistorySides). RanNoted c.args.jobs.now c.args.limit c.args.core_thread.plan (noted_run run) c.args.core_thread.run_seat came.part
+          (noted_run left) came.run_seat) c.deref_mut.ensures.value ran);
+    }

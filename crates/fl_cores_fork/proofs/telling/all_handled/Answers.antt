@@ -1,4 +1,4 @@
-use Rattle.std.proofs.Common.{◌≡◌, ◌+◌, ◌*◌, List, map, rules, arith, sym, subst}
+use Rattle.std.proofs.Common.{refl, ◌∙◌, ◌≡◌, ◌+◌, ◌*◌, List, map, rules, arith, sym, subst}
 use Rattle.std.specs.List.{range_with_len}
 use Rattle.fl_cores_file.specs.declared.report.CallsByEnd.{CallsByEnd}
 use Rattle.fl_cores_file.specs.Reports.{both_of}
@@ -9,7 +9,7 @@ use Rattle.fl_cores_fork.proofs.Taking.{keeps_all, handled_more, keeps_on}
 use Rattle.fl_cores_fork.proofs.telling.all_handled.Goals as goal
 
 pub loop-binding-init : goal.loop-binding-init
-loop-binding-init c = record { handled = search rules; rest = keeps_all 0 (map outcome_of c.args.done.now.items) }
+loop-binding-init c = record { handled = search rules; rest = keeps_all 0 (map outcome_of c.args.done.now.items); hands = refl }
 
 pub loop-binding-preserved : goal.loop-binding-preserved
 loop-binding-preserved c =
@@ -23,4 +23,5 @@ loop-binding-preserved c =
           c.loop-binding.invariant.handled c.both_handled.ensures.handled);
       rest = keeps_on (2 * n) (2 * (n + 1)) before so_far (map outcome_of c.both_handled.new.done.items) (omega arith) c.loop-binding.invariant.rest
           c.both_handled.ensures.rest;
+      hands = c.both_handled.ensures.hands ∙ c.loop-binding.invariant.hands;
     }

@@ -1,4 +1,4 @@
-use Rattle.std.proofs.Common.{map}
+use Rattle.std.proofs.Common.{map, ◌∙◌}
 use Rattle.fl_value_data.specs.Value.{call_of}
 use Rattle.fl_cores_jobs.specs.State.{joined_of}
 use Rattle.fl_cores_fork.specs.CoreThreads.{outcome_of}
@@ -15,3 +15,6 @@ pub returns-clause-rest : goal.returns-clause-rest
 returns-clause-rest c =
     both_rest c.args.binding (map outcome_of c.args.done.now.items) (map outcome_of c.take_at-client.new.done.items)
     (map outcome_of c.take_at-server.new.done.items) c.take_at-client.ensures.rest c.take_at-server.ensures.rest
+
+pub returns-clause-hands : goal.returns-clause-hands
+returns-clause-hands c = c.take_at-server.ensures.hands ∙ c.take_at-client.ensures.hands

@@ -8,7 +8,7 @@ use Rattle.fl_cores_jobs.specs.Joined.{core_at}
 use Rattle.fl_cores_fork.specs.Tells.{handled_by}
 use Rattle.fl_cores_fork.specs.CoreThreads.{outcome_of}
 use Rattle.fl_cores_fork.specs.Taking.{KeepsFrom}
-use Rattle.fl_cores_fork.proofs.Taking.{keeps_all, handled_nowhere, handled_there, keeps_set}
+use Rattle.fl_cores_fork.proofs.Taking.{keeps_all, handled_nowhere, handled_there, keeps_set, same_hands}
 use Rattle.fl_cores_fork.proofs.telling.take_at.Goals as goal
 
 pub returns-in-None-clause-rest : goal.returns-in-None-clause-rest
@@ -35,3 +35,7 @@ pub returns-in-Some-get_mut-clause-rest : goal.returns-in-Some-get_mut-clause-re
 returns-in-Some-get_mut-clause-rest c =
     keeps_set (slot_of c.args.end + 1) c.in-Some.core c.args.done.now.items c.in-Some-get_mut.one.now c.take_from.new.one c.in-Some-get_mut.ensures.value
     (subst (λ (slot : ℕ). KeepsFrom (slot + 1) (outcome_of c.in-Some-get_mut.one.now) (outcome_of c.take_from.new.one)) c.slot_of.ensures.slot c.take_from.ensures.rest)
+
+pub returns-in-Some-get_mut-clause-hands : goal.returns-in-Some-get_mut-clause-hands
+returns-in-Some-get_mut-clause-hands c =
+    same_hands c.in-Some.core c.args.done.now.items c.in-Some-get_mut.one.now c.take_from.new.one c.in-Some-get_mut.ensures.value c.take_from.ensures.hand

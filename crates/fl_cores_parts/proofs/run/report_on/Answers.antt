@@ -1,8 +1,9 @@
 use Rattle.std.proofs.Common.{◌≡◌, ℕ, List, map, length, subst, sym, rules}
+use Rattle.atomic_table.specs.Seated.{TableId}
+use Rattle.fl_history_rings.specs.declared.board.SideEnd.{SideEnd}
+use Rattle.fl_history_sides.specs.States.{TheHistorySide}
+use Rattle.fl_history_shares.specs.Settled.{AreAt, AreAtOne, AreSettled}
 use Rattle.fl_cores_table.specs.Seats.{TheCoresSeat}
-use Rattle.fl_ring.specs.SharedSides.{TheSide}
-use Rattle.fl_cores_shares.specs.Shares.{AreHandedOut}
-use Rattle.fl_cores_shares.specs.Settled.{TwoSides, sides_of, Each, IsNear, HoldRings}
 use Rattle.fl_cores_fork.specs.CoreThreads.{outcome_of}
 use Rattle.fl_cores_fork.specs.Runs.{seats_left}
 use Rattle.fl_cores_parts.specs.CoreThreads.{IsRest}
@@ -15,7 +16,7 @@ put_together-requires c =
     record {
       rest = subst (λ (ss : List TheCoresSeat). IsRest c.args.own (length c.as_slice-count.result.now) ss) (sym c.in_ok-report.ensures.seats)
           (subst (λ (n : ℕ). IsRest c.args.own n (seats_left (map outcome_of c.args.done.items))) (sym jobs) c.requires.rest);
-      rings = subst (λ (holdings : List (List TheSide)). HoldRings c.args.owners.items holdings) (sym c.in_ok-report.ensures.sides) c.requires.rings;
+      one = subst AreAtOne (sym c.in_ok-report.ensures.hands) c.requires.one;
     }
 
 pub returns-clause-heard : goal.returns-clause-heard
@@ -24,7 +25,7 @@ returns-clause-heard c =
     subst (λ (n : ℕ). HeardAsTold n (seats_left (map outcome_of c.args.done.items))) jobs
     (subst (λ (ss : List TheCoresSeat). HeardAsTold (length c.as_slice-count.result.now) ss) c.in_ok-report.ensures.seats c.in_ok-put_together.ensures.heard)
 
-pub returns-clause-near : goal.returns-clause-near
-returns-clause-near c =
-    subst (λ (holdings : List (List TheSide)). (after : List TwoSides) → AreHandedOut c.args.owners.items (sides_of after) holdings → Each IsNear after)
-    c.in_ok-report.ensures.sides c.in_ok-put_together.ensures.near
+pub returns-clause-settled : goal.returns-clause-settled
+returns-clause-settled c =
+    subst (λ (hands : List (List TheHistorySide)). (table : TableId) (ends : List SideEnd) → AreAt table ends hands → AreSettled ends hands)
+    c.in_ok-report.ensures.hands c.in_ok-put_together.ensures.settled

@@ -6,6 +6,7 @@ use Rattle.fl_cores_fork.specs.CoreThreads.{AllReady, core_thread_of}
 use Rattle.fl_cores_fork.proofs.Each.{ready_push}
 use Rattle.fl_cores_parts.specs.Begins.{AreCoreThreads}
 use Rattle.fl_cores_parts.specs.CoreThreads.{common_of, seats_given, AreSeats, left_view}
+use Rattle.fl_cores_parts.proofs.AtTable.{hands_more}
 use Rattle.fl_cores_parts.proofs.Each.{as_many, core_threads_from}
 use Rattle.fl_cores_parts.proofs.Together.{seats_more}
 use Rattle.fl_cores_parts.proofs.Seats.{left_from}
@@ -60,3 +61,9 @@ returns-clause-seats t c =
     subst (λ (xs : List CoreThread). AreSeats c.args.own.now (seats_given (map core_thread_of xs))) (sym adds.added)
     (seats_more c.args.own.now c.core_threads.new.own adds.core_thread.run_seat.seat c.in_ok-core_threads.core_threads.items adds.core_thread c.in_ok-core_threads.ensures.seats
     c.in_ok-core_threads.ensures.table adds.seat refl)
+
+pub returns-clause-hands : goal.returns-clause-hands
+returns-clause-hands t c =
+    let adds = c.in_ok-add_core_thread.ensures.adds in
+    hands_more _ c.in_ok-core_threads.core_threads.items adds.core_thread c.args.sides.items c.pop-2.new.self.items c.in-Some-pop.own_sides adds.added
+    (search rules) c.in_ok-core_threads.ensures.hands adds.rings_are

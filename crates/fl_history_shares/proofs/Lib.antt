@@ -1,0 +1,5 @@
+pub mod Own
+pub mod Numbered
+pub mod Shown
+pub mod Gathered
+pub mod Near
