@@ -6,14 +6,12 @@ use Rattle.fl_cores.specs.Behind.{joined_in}
 use Rattle.fl_cores.specs.OneCore.{begins}
 use Rattle.fl_cores_joined.specs.Entries.{none_open, left_open, moments_of, StepsInterleave}
 use Rattle.fl_cores_joined.specs.RenamedRuns.{RunsJoinInAnyOrder}
-use Rattle.fl_cores_whole.specs.AnyOrder.{is_of_link, ReportsJoinInAnyOrder, TheirTurnsJoinInAnyOrder}
-use Rattle.fl_cores_whole.specs.AnyOrder.{StepsJoinInAnyOrder, TheirStepsJoinInAnyOrder}
+use Rattle.fl_cores_whole.specs.AnyOrder.{is_of_link, ReportsJoinInAnyOrder, StepsJoinInAnyOrder}
 use Rattle.fl_cores_whole.specs.Begin.{HandedOutJoin}
 use Rattle.fl_cores_whole.specs.Whole.{begun}
 use Rattle.fl_cores_whole.proofs.Asking.{open_rightly}
 use Rattle.fl_cores_whole.proofs.AtFirst.{are_at_first, are_wired}
 use Rattle.fl_cores_whole.proofs.NewNumbers.{numbers_are_new}
-use Rattle.fl_cores_whole.proofs.Turned.{all_whole, steps_whole}
 use Rattle.fl_cores_whole.proofs.Whole.{shown, they_show, whole_before_looks}
 
 pub reports_join_in_any_order : SetUpsStartFresh → HandedOutJoin → LeadsAtFirst → RunsJoinInAnyOrder → ReportsJoinInAnyOrder
@@ -26,10 +24,6 @@ reports_join_in_any_order fresh handed leads runs c jobs limit r w moments ys h 
     (are_at_first fresh handed c jobs limit r w (is_of_link (begun w))) (are_wired fresh handed c jobs limit r w leads) h still
     (open_rightly c jobs limit r w moments s ys h) (numbers_are_new c jobs limit r w (length s.bindings) count moments ys h)
 
-pub their_turns_join_in_any_order : ReportsJoinInAnyOrder → TheirTurnsJoinInAnyOrder
-their_turns_join_in_any_order join c jobs limit r w follow moments ys h theirs =
-    join c jobs limit r w moments ys h (all_whole c jobs limit r w follow moments ys h theirs)
-
 pub steps_join_in_any_order : StepsInterleave → ReportsJoinInAnyOrder → StepsJoinInAnyOrder
 steps_join_in_any_order interleave join c jobs limit r w steps ys h still =
     let (ms, moments, before) = interleave (joined_in w).jobs (begun w) ys steps h in
@@ -39,7 +33,3 @@ steps_join_in_any_order interleave join c jobs limit r w steps ys h still =
       before = before;
       runs = join c jobs limit r w (moments_of steps) ms moments (whole_before_looks (joined_in w).jobs (left_open none_open steps) ys ms before still);
     }
-
-pub their_steps_join_in_any_order : StepsJoinInAnyOrder → TheirStepsJoinInAnyOrder
-their_steps_join_in_any_order join c jobs limit r w follow steps ys h theirs =
-    join c jobs limit r w steps ys h (steps_whole c jobs limit r w follow steps ys h theirs)

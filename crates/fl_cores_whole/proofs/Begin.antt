@@ -1,20 +1,21 @@
 -- What a set-up made, once it is handed out to cores, is joined from them.
 use Rattle.std.proofs.Common.{◌≡◌, inl, inr, refl, sym, ◌∙◌, ap, subst, ℕ, zero, suc, ◌+◌, ◌*◌, ◌/◌, ◌<◌, List, [], ◌∷◌, length, map, slice_get, Option, Some, None, unwrap_or, arith}
-use Rattle.std.specs.List.{range_with_len}
+use Rattle.std.specs.List.{AllZip, range_with_len}
 use Rattle.fl_base.specs.Given.{given}
 use Rattle.fl_hop.proofs.Lists.{within, at_within, index_there}
 use Rattle.fl_link.specs.Queue.{TheQueue}
 use Rattle.fl_ring.specs.Duo.{TheDuo}
 use Rattle.fl_ring.specs.SharedSides.{TheSide}
+use Rattle.fl_core.specs.declared.core_job.CoreJob.{CoreJob}
 use Rattle.fl_core.specs.declared.wiring.EndWiring.{EndWiring}
 use Rattle.fl_core.specs.declared.wiring.EndWiring.TheVariants.{Queues, Ring, Circuit}
 use Rattle.fl_core.specs.declared.wiring.LinkSide.{LinkSide}
 use Rattle.fl_core.specs.declared.wiring.WiredEnd.{WiredEnd}
 use Rattle.fl_core.specs.Numbers.{moved, moved_link_side, moved_wiring, moved_wired_end, renumbered}
 use Rattle.fl_core.specs.Sound.{IsCore}
-use Rattle.fl_core.specs.View.{TheCore, place_of}
+use Rattle.fl_core.specs.View.{TheCore, place_of, side_of_link}
 use Rattle.fl_core.proofs.Numbering.{came_from, goes_to}
-use Rattle.fl_cores_fork.specs.Runs.{TheCoreThread, TheFinishedCore}
+use Rattle.fl_cores_fork.specs.Runs.{TheCoreThread, TheFinishedCore, RanTo}
 use Rattle.fl_cores_jobs.specs.State.{TheJoinedJobs}
 use Rattle.fl_cores_parts.specs.Begins.{Places, TheCoreInputs, common_in, IsCoreThread, AreCoreThreads}
 use Rattle.fl_cores_parts.specs.Shares.{AreNewRings, Shares}
@@ -26,8 +27,10 @@ use Rattle.fl_world_refines.specs.ShowsState.{wiring_of, NamesQueue, NamesSide}
 use Rattle.fl_world_refines.specs.View.{TheWorld}
 use Rattle.fl_world_refines.proofs.FramesBase.{same_some}
 use Rattle.fl_compile.specs.Programs.{program_of}
+use Rattle.fl_cores_joined.proofs.RenamedWired.{side_found}
 use Rattle.fl_cores_joined.specs.Rings.{ring_of, TookFrom}
 use Rattle.fl_cores_joined.specs.Joined.{JoinedCore, in_world, HasSide, IsRingOf, AreOffers, IsJoined}
+use Rattle.fl_history_joined.specs.InTurn.{LinksAreLent}
 use Rattle.fl_cores_whole.specs.Begin.{numbers_of, Owners, joined_from, owners_in, IsBehind, AreCores, HandedOutJoin}
 use Rattle.fl_cores_whole.proofs.Own.{IsOwn, own_at, own_there, as_many, range_long}
 
@@ -54,6 +57,14 @@ map_long f [] = refl
 map_long f (x ∷ xs) = let e = map_long f xs in omega (arith, e)
 
 -- ---- threads
+
+-- each thread came back
+pub zip_long : (jobs : List CoreJob) (limit : ℕ) (threads : List TheCoreThread) (outcomes : List TheFinishedCore) → AllZip (RanTo jobs limit) threads outcomes
+    → length threads ≡ length outcomes
+zip_long jobs limit [] [] h = refl
+zip_long jobs limit [] (o ∷ outcomes) h = absurd h
+zip_long jobs limit (s ∷ threads) [] h = absurd h
+zip_long jobs limit (s ∷ threads) (o ∷ outcomes) h = ap suc (zip_long jobs limit threads outcomes h.1)
 
 record ThreadAt (c : TheCoreInputs) (n i : ℕ) (cores : List TheCore) (s : TheCoreThread) : Type 0 where
   pub core : TheCore
@@ -273,6 +284,27 @@ module _ (w : TheWorld) (p : Parts) (j : TheJoinedJobs) (at : Places) (threads :
         ap (renumbered (numbers_of n h.side_owners) (numbers_of n h.queue_owners)) core_is
         ∙ (let a = ends_back in let b = links_back in λ i. record k { wired_ends = a i; link_sides = b i })
 
+    -- the side of each of its links is in its hand
+    side_lent : slice_get threads n ≡ Some t → (m : ℕ) → NamesSide k m → moved at.sides m < length t.run.rings
+    side_lent t_is m names =
+        let owner = side_owner m names in
+        let less = within h.side_owners m n owner in
+        let count = h.sides.handed_out.count in
+        let thing = at_within (sides_of h.pairs) m (omega (arith, less, count)) in
+        let it = h.sides.at m n thing.0 owner thing.1 in
+        let place : moved at.sides m ≡ it.place = index_there at.sides m m it.place it.place_is in
+        let hand = holding_is (λ (s : TheCoreThread). s.run.rings) threads n t t_is in
+        let less_there = within t.run.rings it.place thing.0 (ap (λ (l : List TheSide). slice_get l it.place) (sym hand) ∙ it.stands) in
+        omega (arith, place, less_there)
+
+    link_lent : slice_get threads n ≡ Some t → (l side : ℕ) → side_of_link t.run.core.link_sides l ≡ Some side → side < length t.run.rings
+    link_lent t_is l side is =
+        let (z, z_is, same) = side_found t.run.core.link_sides l side (slice_get t.run.core.link_sides l) refl is in
+        let from = came_from (moved_link_side at.sides) k.link_sides l z (ap (λ (c : TheCore). slice_get c.link_sides l) (sym core_is) ∙ z_is) in
+        let less = side_lent t_is from.first.side (inl (l, ap (λ (o : Option LinkSide). given o None λ y. Some y.side) from.first_is)) in
+        let moved_is : z.side ≡ moved at.sides from.first.side = ap (λ (y : LinkSide). y.side) from.same in
+        omega (arith, less, moved_is, same)
+
   cores_are : w.cores ≡ map in_world xs
   cores_are =
       same_lists w.cores (map in_world xs) long
@@ -288,6 +320,12 @@ module _ (w : TheWorld) (p : Parts) (j : TheJoinedJobs) (at : Places) (threads :
       long =
           ap length (sym behind.parts.cores) ∙ threads_long (common_in p j at) 0 p.cores.items threads begin ∙ sym (joined_long owners 0 threads)
           ∙ sym (map_long in_world xs)
+
+  links_lent : (n : ℕ) (t : TheCoreThread) → slice_get threads n ≡ Some t → (l side : ℕ) → side_of_link t.run.core.link_sides l ≡ Some side
+      → side < length t.run.rings
+  links_lent n t t_is =
+      let th = first_thread (common_in p j at) n p.cores.items threads t begin t_is in
+      link_lent n th.core t (ap (λ (l : List TheCore). slice_get l n) (sym behind.parts.cores) ∙ th.core_is) th.is.core_is (cores n t t_is) t_is
 
   -- ---- sides
 
@@ -409,3 +447,9 @@ module _ (w : TheWorld) (p : Parts) (j : TheJoinedJobs) (at : Places) (threads :
 
 pub handed_out_join : HandedOutJoin
 handed_out_join w p j at threads outcomes behind cores begin h = are_joined w p j at threads outcomes behind cores begin h
+
+-- each core thread is lent the sides of its core's links
+pub links_are_lent : (w : TheWorld) (p : Parts) (j : TheJoinedJobs) (at : Places) (threads : List TheCoreThread) (outcomes : List TheFinishedCore)
+    → IsBehind w p → AreCores threads → AreCoreThreads (common_in p j at) 0 p.cores.items threads → Shares p at threads outcomes
+    → (n : ℕ) (t : TheCoreThread) → slice_get threads n ≡ Some t → LinksAreLent t.run
+links_are_lent w p j at threads outcomes behind cores begin h n t t_is = links_lent w p j at threads outcomes behind cores begin h n t t_is

@@ -21,8 +21,8 @@ use Rattle.fl_cores.specs.OneCore.{rule_in, begins}
 use Rattle.fl_cores_joined.specs.Joined.{JoinedCore}
 use Rattle.fl_cores_joined.specs.RenamedRuns.{all_under}
 use Rattle.fl_cores_joined.specs.Runs.{asked_in, events_of, MachineRuns}
-use Rattle.fl_cores_whole.specs.Whole.{begun, ReportsJoin, TheirTurnsJoin}
-use Rattle.fl_cores_whole.specs.Holds.{events_before, state_after, KeepsLaws, ReportsHold, TheirTurnsHold, RunsUnderSomeHold}
+use Rattle.fl_cores_whole.specs.Whole.{begun, ReportsJoin}
+use Rattle.fl_cores_whole.specs.Holds.{events_before, state_after, KeepsLaws, ReportsHold, RunsUnderSomeHold}
 
 -- ---- runs in two parts
 
@@ -101,11 +101,6 @@ pub reports_hold : NoWireFaults → EverHandledIsAPrefix → EverPassedFalls →
 reports_hold none prefix falls once join c jobs limit r w moments ys h still in_turn =
     holds none prefix falls once c jobs w.accepted.cores (asked_in (joined_in w).jobs (begun w) moments ys h) ys
     (join c jobs limit r w moments ys h still in_turn)
-
-pub their_turns_hold : NoWireFaults → EverHandledIsAPrefix → EverPassedFalls → EverOnceBothWays → TheirTurnsJoin → TheirTurnsHold
-their_turns_hold none prefix falls once join c jobs limit r w follow moments ys h theirs in_turn =
-    holds none prefix falls once c jobs w.accepted.cores (asked_in (joined_in w).jobs (begun w) moments ys h) ys
-    (join c jobs limit r w follow moments ys h theirs in_turn)
 
 pub runs_under_some_hold : NoWireFaults → EverHandledIsAPrefix → EverPassedFalls → EverOnceBothWays → RunsUnderSomeHold
 runs_under_some_hold none prefix falls once c jobs limit r w links moments exchanges ys under =

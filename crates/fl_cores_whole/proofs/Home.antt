@@ -25,10 +25,9 @@ use Rattle.fl_core_run_laws.specs.Led.{LeadsAtFirst}
 use Rattle.fl_core_run_laws.specs.Logs.{call_in, handled_at, Goes}
 use Rattle.fl_core_run_laws.proofs.CircuitsMade.{places_to}
 use Rattle.fl_core_run_laws.proofs.Handling.{one_end}
-use Rattle.fl_core_refines.specs.CutStart.{first_cut}
 use Rattle.fl_core_refines.specs.SetUpStart.{SetUpsStartFresh}
 use Rattle.fl_core_turned.specs.TurnEvents.{Event, event, log_of}
-use Rattle.fl_core_turned.specs.Turned.{moment, shared_ways}
+use Rattle.fl_core_turned.specs.Turned.{shared_ways}
 use Rattle.fl_cores_file.specs.Jobs.{Job}
 use Rattle.fl_cores_file.specs.Report.{TheReport, at_end}
 use Rattle.fl_cores_fork.specs.Runs.{TheCoreThread, TheFinishedCore}
@@ -46,7 +45,6 @@ use Rattle.fl_world_refines.specs.declared.binding.Binding.{Binding}
 use Rattle.fl_world_refines.specs.View.{core_in}
 use Rattle.fl_world_refines.proofs.FramesBase.{same_some}
 use Rattle.fl_cores.specs.Behind.{joined_in}
-use Rattle.fl_cores.specs.Follows.{CoresFollow}
 use Rattle.fl_cores.specs.Outcomes.{ReportsAreOfRuns}
 use Rattle.fl_cores.specs.Promised.{Reports}
 use Rattle.fl_cores.specs.Runs.{AreRuns}
@@ -61,11 +59,9 @@ use Rattle.fl_cores_joined.specs.Steps.{Moment, does, forwards, Interleaves}
 use Rattle.fl_cores_joined.specs.Runs.{asked_in}
 use Rattle.fl_cores_joined.proofs.Joining.{long_set}
 use Rattle.fl_cores_whole.specs.Begin.{owners_in}
-use Rattle.fl_cores_whole.specs.Told.{TheirCallsAreTold}
-use Rattle.fl_cores_whole.specs.Whole.{begun, events_at, AreAllTheirTurns}
-use Rattle.fl_cores_whole.proofs.Begin.{joined_long}
-use Rattle.fl_cores_whole.proofs.Told.{goes, of_all, own_calls_are_told}
-use Rattle.fl_cores_whole.proofs.Turned.{zip_long}
+use Rattle.fl_cores_whole.specs.Whole.{begun, events_at}
+use Rattle.fl_cores_whole.proofs.Begin.{joined_long, zip_long}
+use Rattle.fl_cores_whole.proofs.Told.{of_all, OwnLogs, own_calls_are_told}
 
 -- what is known of ends that are made in a run
 pub record HomeLaws : Type 0 where
@@ -270,8 +266,8 @@ module _ (l : HomeLaws) (c : TheConfig) (jobs : List Job) (limit : ℕ) (r : The
 
   -- ---- in an order of all turns
 
-  module _ (follow : CoresFollow w) (moments : List Moment) (ys : List JoinedCore) (h : Interleaves j.jobs (begun w) moments ys)
-      (theirs : AreAllTheirTurns w follow moments ys h) (e : EndId) where
+  module _ (moments : List Moment) (ys : List JoinedCore) (h : Interleaves j.jobs (begun w) moments ys) (own_logs : OwnLogs w moments ys h)
+      (e : EndId) where
     abbrev handled : ℕ → List TheCall
     handled m = map call_of (handled_at e (log_of (events_at m j.jobs (begun w) moments ys h)))
 
@@ -293,12 +289,11 @@ module _ (l : HomeLaws) (c : TheConfig) (jobs : List Job) (limit : ℕ) (r : The
             let below = within threads m t t_is in
             let count = zip_long j.jobs limit threads outcomes w.ran.ran.ran.ran in
             let (o, o_is) = at_within outcomes m (omega (arith, below, count)) in
-            let its = follow m t o t_is o_is in
-            let all = goes _ j.jobs its.turned.events (moment t.run (first_cut its.core t.run)) (moment o.run its.after) its.turned.follows in
-            ap (λ (events : List (Event TheSide)). map call_of (handled_at e (log_of events))) (theirs m t o t_is o_is)
-            ∙ ap (map call_of) (nowhere j.jobs e (log_of its.turned.events) t.run o.run all (λ place here. other (at_home m t o t_is o_is e place here)))
+            let its = own_logs m t o t_is o_is in
+            ap (λ (log : List LogEntry). map call_of (handled_at e log)) its.log_is
+            ∙ ap (map call_of) (nowhere j.jobs e its.log t.run o.run its.goes (λ place here. other (at_home m t o t_is o_is e place here)))
 
-    told : ReportsAreOfRuns → calls_handled e (asked_in j.jobs (begun w) moments ys h) ≡ at_end r.handled e
+    pub told : ReportsAreOfRuns → calls_handled e (asked_in j.jobs (begun w) moments ys h) ≡ at_end r.handled e
     told are = by (slice_get j.bindings e.binding) refl
       where
         by : (o : Option BindingCores) → slice_get j.bindings e.binding ≡ o → calls_handled e (asked_in j.jobs (begun w) moments ys h) ≡ at_end r.handled e
@@ -314,7 +309,4 @@ module _ (l : HomeLaws) (c : TheConfig) (jobs : List Job) (limit : ℕ) (r : The
             let n = core_of e.side b in
             let own : core_at j.bindings e ≡ Some n = ap (λ (x : Option BindingCores). given x None (λ (y : BindingCores). Some (core_of e.side y))) is in
             of_all e n j.jobs moments (begun w) ys h (λ m other. none_by m (λ at. other (same_some (core_at j.bindings e) m n at own)))
-            ∙ own_calls_are_told are c jobs limit r w follow moments ys h theirs n e own
-
-pub their_calls_are_told : HomeLaws → ReportsAreOfRuns → TheirCallsAreTold
-their_calls_are_told l are c jobs limit r w follow moments ys h theirs e = told l c jobs limit r w follow moments ys h theirs e are
+            ∙ own_calls_are_told are c jobs limit r w moments ys h own_logs n e own

@@ -4,9 +4,6 @@ pub mod Renewed
 pub mod Staying
 pub mod Asking
 pub mod Whole
-pub mod Turned
-pub mod OneMore
-pub mod Next
 pub mod NewNumbers
 pub mod AtFirst
 pub mod AnyOrder
@@ -15,4 +12,6 @@ pub mod One
 pub mod Told
 pub mod ToldUnder
 pub mod Home
+pub mod Machine
+pub mod AtTable
 pub mod Wants

@@ -133,6 +133,7 @@ module _ (services : List Service) (jobs : List CoreJob) (sides queues : List �
             notes_lifted no_facing log_entry mid b.run h.happens.2,
             h.happens.3,
             acts_lifted no_facing log_entry a.run h.happens.4,
+            tt,
           );
           in_place = in_place_lifted no_facing a.run (ap (λ (ps : List TheSide). length ps) (sym none)) jobs log_entry h.in_place;
           rest = ap (λ (r : TheRun TheSide). here r ∷ []) (sym (same_back b.run rings));

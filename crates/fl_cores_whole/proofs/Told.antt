@@ -27,10 +27,8 @@ use Rattle.fl_core_run.specs.LogEntries.{LogEntry, looked, passed, arrived, hear
 use Rattle.fl_core_run.specs.Run.{TheRun}
 use Rattle.fl_core_run_laws.specs.Logs.{call_in, handled_in, handled_at, handled_of, in_progress, Goes}
 use Rattle.fl_core_run_laws.proofs.Handling.{progresses_tell}
-use Rattle.fl_core_refines.specs.CutStart.{first_cut}
 use Rattle.fl_core_turned.specs.TurnEvents.{Event, event, log_of}
-use Rattle.fl_core_turned.specs.Turned.{CutMoment, moment, shared_ways, AllFollow}
-use Rattle.fl_model.specs.Monitors.{Service}
+use Rattle.fl_core_turned.specs.Turned.{shared_ways}
 use Rattle.fl_model.specs.Runs.{Exchange, calls_handled, same_side as same_side_there, same_end as same_end_there, handled_in as handled_there}
 use Rattle.fl_world_refines.specs.Taking.{turn_answer}
 use Rattle.fl_world_refines.proofs.PassingLists.{some_is}
@@ -42,7 +40,6 @@ use Rattle.fl_cores_laws.specs.EndedCores.{OneCore}
 use Rattle.fl_cores_laws.proofs.Complete.{core_below}
 use Rattle.fl_cores_laws.proofs.EndedProgress.{has_place, is_some_by}
 use Rattle.fl_cores.specs.Behind.{core_of as one_core, cores_of, joined_in, cores_in}
-use Rattle.fl_cores.specs.Follows.{CoresFollow}
 use Rattle.fl_cores.specs.Outcomes.{ReportsAreOfRuns}
 use Rattle.fl_cores.specs.Promised.{Reports}
 use Rattle.fl_cores_file.specs.Jobs.{Job}
@@ -51,7 +48,7 @@ use Rattle.fl_world.specs.Booting.{TheConfig}
 use Rattle.fl_cores_joined.specs.Joined.{JoinedCore, alone}
 use Rattle.fl_cores_joined.specs.Steps.{Moment, does, forwards, Follows, Interleaves, asks, forward_asks}
 use Rattle.fl_cores_joined.specs.Runs.{asked_in}
-use Rattle.fl_cores_whole.specs.Whole.{begun, events_at, AreAllTheirTurns}
+use Rattle.fl_cores_whole.specs.Whole.{begun, events_at}
 
 -- ---- whether two ends are one, as logs and as the machine ask it
 
@@ -230,11 +227,6 @@ module _ (e : EndId) where
 
 -- ---- a core's progress, and what is told of it
 
-pub goes : (services : List Service) (jobs : List CoreJob) (events : List (Event TheSide)) (a b : CutMoment) → AllFollow services jobs events a b
-    → Goes shared_ways jobs a.run (log_of events) b.run
-goes services jobs [] a b h = ap (λ (m : CutMoment). m.run) h
-goes services jobs (x ∷ events) a b h = (x.run, h.1.happens, h.1.in_place, goes services jobs events (moment x.run h.0) b h.2)
-
 -- a core, as a report has it
 record Reported (cores : List OneCore) (n : ℕ) (s : TheCoreThread) (o : TheFinishedCore) : Type 0 where
   core : OneCore
@@ -279,13 +271,26 @@ none_handled : (o : Option ℕ) (progresses : List TheEndProgress) (d : TheEndPr
 none_handled None progresses d is none = absurd (cc)
 none_handled (Some k) progresses d is none = ap in_progress is ∙ none
 
+-- the log of core n in a run, which is what this order has of it
+pub record OwnLog (jobs : List CoreJob) (s : TheCoreThread) (o : TheFinishedCore) (in_order : List LogEntry) : Type 0 where
+  pub log : List LogEntry
+  pub log_is : in_order ≡ log
+  pub goes : Goes shared_ways jobs s.run log o.run
+
+module _ {c : TheConfig} {jobs : List Job} {limit : ℕ} {r : TheReport} (w : Reports c jobs limit r) where
+  -- so it is of each core
+  abbrev pub OwnLogs : (moments : List Moment) (ys : List JoinedCore) → Interleaves (joined_in w).jobs (begun w) moments ys → Type 0
+  OwnLogs moments ys h = (n : ℕ) (s : TheCoreThread) (o : TheFinishedCore) → slice_get w.ran.ran.ran.core_threads n ≡ Some s
+      → slice_get w.ran.ran.ran.outcomes n ≡ Some o
+      → OwnLog (joined_in w).jobs s o (log_of (events_at n (joined_in w).jobs (begun w) moments ys h))
+
 -- an end's own core handled just what is told
 pub own_calls_are_told : ReportsAreOfRuns → (c : TheConfig) (jobs : List Job) (limit : ℕ) (r : TheReport) (w : Reports c jobs limit r)
-    (follow : CoresFollow w) (moments : List Moment) (ys : List JoinedCore) (h : Interleaves (joined_in w).jobs (begun w) moments ys)
-    → AreAllTheirTurns w follow moments ys h → (n : ℕ) (e : EndId) → core_at (joined_in w).bindings e ≡ Some n
+    (moments : List Moment) (ys : List JoinedCore) (h : Interleaves (joined_in w).jobs (begun w) moments ys)
+    → OwnLogs w moments ys h → (n : ℕ) (e : EndId) → core_at (joined_in w).bindings e ≡ Some n
     → map call_of (handled_at e (log_of (events_at n (joined_in w).jobs (begun w) moments ys h))) ≡ at_end r.handled e
-own_calls_are_told runs c jobs limit r w follow moments ys h theirs n e own =
-    ap (λ (events : List (Event TheSide)). map call_of (handled_at e (log_of events))) (theirs n s.0 o.0 s.1 o.1)
+own_calls_are_told runs c jobs limit r w moments ys h own_logs n e own =
+    ap (λ (log : List LogEntry). map call_of (handled_at e log)) its.log_is
     ∙ sym (ap (map call_of) handled)
     ∙ sym (ran.progresses.handled e n core.core own core.core_is ∙ ap (λ (t : TheRun TheSide). map call_of (handled_of t e)) core.ended)
   where
@@ -308,15 +313,16 @@ own_calls_are_told runs c jobs limit r w follow moments ys h theirs n e own =
     core : Reported (cores_in w) n s.0 o.0
     core = reported (joined_in w).jobs limit w.ran.ran.ran.core_threads w.ran.ran.ran.outcomes w.ran.ran.ran.ran n s.0 o.0 s.1 o.1
 
-    handled : handled_of o.0.run e ≡ handled_at e (log_of (follow n s.0 o.0 s.1 o.1).turned.events)
+    its : OwnLog (joined_in w).jobs s.0 o.0 (log_of (events_at n (joined_in w).jobs (begun w) moments ys h))
+    its = own_logs n s.0 o.0 s.1 o.1
+
+    handled : handled_of o.0.run e ≡ handled_at e its.log
     handled =
-        let its = follow n s.0 o.0 s.1 o.1 in
         let progress = (ran.begins n core.core core.core_is).progresses e own in
         let (place, place_is, there) = has_place _ core.core.begin.run.progresses progress.progress progress.progress_is in
         let at_first : handled_of core.core.begin.run e ≡ [] =
         none_handled _ core.core.begin.run.progresses progress.progress progress.progress_is progress.none_handled in
-        let all = goes _ (joined_in w).jobs its.turned.events (moment s.0.run (first_cut its.core s.0.run)) (moment o.0.run its.after) its.turned.follows in
         let now_there : progress_place s.0.run.progresses e ≡ Some place =
         ap (λ (t : TheRun TheSide). progress_place t.progresses e) (sym core.began) ∙ place_is in
-        progresses_tell shared_ways (joined_in w).jobs s.0.run o.0.run (log_of its.turned.events) e (is_some_by _ place now_there) all
-        ∙ ap (λ (l : List Call). l ++ handled_at e (log_of its.turned.events)) (sym (ap (λ (t : TheRun TheSide). handled_of t e) core.began) ∙ at_first)
+        progresses_tell shared_ways (joined_in w).jobs s.0.run o.0.run its.log e (is_some_by _ place now_there) its.goes
+        ∙ ap (λ (l : List Call). l ++ handled_at e its.log) (sym (ap (λ (t : TheRun TheSide). handled_of t e) core.began) ∙ at_first)

@@ -5,12 +5,8 @@ use Rattle.fl_base.specs.declared.identity.EndId.{EndId}
 use Rattle.fl_value_data.specs.Value.{TheCall}
 use Rattle.fl_model.specs.Events.{Answer, done, accepted, nothing, full, written, handle, part, ready, quiet, forwarded, opened, opening_refused, words, refused}
 use Rattle.fl_model.specs.Runs.{Exchange, same_side, handled_in, calls_handled}
-use Rattle.fl_cores.specs.Behind.{joined_in}
 use Rattle.fl_cores_joined.specs.Renamed.{Renaming, end_under}
 use Rattle.fl_cores_joined.specs.RenamedRuns.{answer_under, all_under}
-use Rattle.fl_cores_joined.specs.Runs.{asked_in}
-use Rattle.fl_cores_whole.specs.Told.{TheirCallsAreTold, CallsStay, TheirCallsAreToldInAnyOrder}
-use Rattle.fl_cores_whole.specs.Whole.{begun}
 
 module _ (r : Renaming) (e : EndId) where
   one_number : (a b : ℕ) → r.to a ≡ r.to b → a ≡ b
@@ -52,11 +48,7 @@ module _ (r : Renaming) (e : EndId) where
       ap (λ (l : List TheCall). l ++ calls_handled (end_under r e) (all_under r xs)) (by_answer x.answer)
       ∙ ap (λ (l : List TheCall). handled_in e x.answer ++ l) (stay xs)
 
-pub calls_stay : CallsStay
+-- Under other numbers an end handles just the calls that it handled, at its number there: no two bindings have one.
+pub calls_stay : (renaming : Renaming) (e : EndId) (exchanges : List Exchange)
+    → calls_handled (end_under renaming e) (all_under renaming exchanges) ≡ calls_handled e exchanges
 calls_stay renaming e exchanges = stay renaming e exchanges
-
-pub their_calls_are_told_in_any_order : TheirCallsAreTold → TheirCallsAreToldInAnyOrder
-their_calls_are_told_in_any_order told c jobs limit r w follow moments ys h theirs under e =
-    ap (calls_handled (end_under under.renaming e)) under.runs.runs.answers
-    ∙ stay under.renaming e (asked_in (joined_in w).jobs (begun w) moments ys h)
-    ∙ told c jobs limit r w follow moments ys h theirs e

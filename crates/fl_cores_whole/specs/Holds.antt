@@ -16,14 +16,13 @@ use Rattle.fl_cores_file.specs.Jobs.{Job}
 use Rattle.fl_cores_file.specs.Report.{TheReport}
 use Rattle.fl_world.specs.Booting.{TheConfig}
 use Rattle.fl_cores.specs.Behind.{joined_in}
-use Rattle.fl_cores.specs.Follows.{CoresFollow}
 use Rattle.fl_cores.specs.OneCore.{rule_in, begins}
 use Rattle.fl_cores.specs.Promised.{Reports}
 use Rattle.fl_cores_joined.specs.Joined.{JoinedCore, AreWhole}
 use Rattle.fl_cores_joined.specs.RenamedRuns.{all_under, RunsUnderSome}
 use Rattle.fl_cores_joined.specs.Steps.{Moment, Interleaves}
 use Rattle.fl_cores_joined.specs.Runs.{asked_in, events_of, AllAreNumbered}
-use Rattle.fl_cores_whole.specs.Whole.{begun, AreTheirTurns}
+use Rattle.fl_cores_whole.specs.Whole.{begun}
 
 -- the machine's events before the cores', which set things up and set the jobs' rules
 abbrev pub events_before : TheConfig → List Job → List Event
@@ -54,15 +53,8 @@ ReportsHold = (c : TheConfig) (jobs : List Job) (limit : ℕ) (r : TheReport) (w
     → AllAreNumbered (joined_in w).jobs (begins c jobs) (begun w) moments ys h
     → KeepsLaws c jobs (asked_in (joined_in w).jobs (begun w) moments ys h)
 
--- So it does of what they did in their turns, at any moment at which no look waits for what follows it
-abbrev pub TheirTurnsHold : Type 0
-TheirTurnsHold = (c : TheConfig) (jobs : List Job) (limit : ℕ) (r : TheReport) (w : Reports c jobs limit r)
-    (follow : CoresFollow w) (moments : List Moment) (ys : List JoinedCore)
-    → (h : Interleaves (joined_in w).jobs (begun w) moments ys) → AreTheirTurns w follow moments ys h
-    → AllAreNumbered (joined_in w).jobs (begins c jobs) (begun w) moments ys h
-    → KeepsLaws c jobs (asked_in (joined_in w).jobs (begun w) moments ys h)
-
--- and of each run from behind the set-up in which bindings have other numbers: of what the machine was asked, under them.
+-- So it does of each run from behind the set-up in which bindings have other numbers: of what the machine was asked,
+-- under them.
 abbrev pub RunsUnderSomeHold : Type 0
 RunsUnderSomeHold = (c : TheConfig) (jobs : List Job) (limit : ℕ) (r : TheReport) (w : Reports c jobs limit r)
     (links : ℕ → Bool) (moments : List Moment) (exchanges : List Exchange) (ys : List JoinedCore)

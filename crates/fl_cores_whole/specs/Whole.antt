@@ -1,22 +1,17 @@
 -- A reported run of cores, as a run of the one machine. Laws.
-use Rattle.std.specs.Prelude.{ℕ, ◌≡◌, ◌==◌, if◌then◌else◌, List, [], ◌∷◌, ◌++◌, slice_get, Some, None}
-use Rattle.fl_base.specs.Prefix.{IsPrefix}
+use Rattle.std.specs.Prelude.{ℕ, ◌≡◌, ◌==◌, if◌then◌else◌, List, [], ◌∷◌, ◌++◌, slice_get, Some}
 use Rattle.fl_ring.specs.SharedSides.{TheSide}
 use Rattle.fl_core.specs.declared.core_job.CoreJob.{CoreJob}
 use Rattle.fl_core_turned.specs.TurnEvents.{Event as TurnEvent, event}
-use Rattle.fl_cores_fork.specs.Runs.{TheCoreThread, TheFinishedCore}
+use Rattle.fl_cores_fork.specs.Runs.{TheFinishedCore}
 use Rattle.fl_cores.specs.Behind.{joined_in}
-use Rattle.fl_cores.specs.Follows.{CoresFollow}
 use Rattle.fl_cores.specs.OneCore.{begins}
 use Rattle.fl_cores.specs.Promised.{Reports}
 use Rattle.fl_cores_file.specs.Jobs.{Job}
 use Rattle.fl_cores_file.specs.Report.{TheReport}
 use Rattle.fl_world.specs.Booting.{TheConfig}
 use Rattle.fl_cores_joined.specs.Joined.{JoinedCore, AreWhole, alone}
-use Rattle.fl_cores_joined.specs.Entries.{CoreStep, acts, looks, follows, OpenLooks, none_open, with_look}
-use Rattle.fl_cores_joined.specs.Entries.{StepByStep, left_open, AreBeforeLooks}
-use Rattle.fl_cores_joined.specs.Entries.{moments_of}
-use Rattle.fl_cores_joined.specs.Exchanges.{ComeTo}
+use Rattle.fl_cores_joined.specs.Entries.{CoreStep, none_open, StepByStep, left_open, AreBeforeLooks, moments_of}
 use Rattle.fl_cores_joined.specs.Steps.{Moment, does, forwards, Interleaves}
 use Rattle.fl_cores_joined.specs.Runs.{asked_in, MachineRuns, AllAreNumbered}
 use Rattle.fl_cores_whole.specs.Begin.{joined_from, owners_in}
@@ -65,80 +60,8 @@ events_at n jobs xs (forwards m look next ∷ moments) ys h =
     (if m == n then event look (alone h.1.1.1.after) ∷ event next (alone h.1.1.2.after) ∷ [] else [])
     ++ events_at n jobs h.0 moments ys h.2
 
-module _ {c : TheConfig} {jobs : List Job} {limit : ℕ} {r : TheReport} (w : Reports c jobs limit r)
-    (follow : CoresFollow w) where
-  -- an interleaving of what the cores did: of each core's turns the first events, up to some moment
-  abbrev pub AreTheirTurns : (moments : List Moment) (ys : List JoinedCore)
-      → Interleaves (joined_in w).jobs (begun w) moments ys → Type 0
-  AreTheirTurns moments ys h = (n : ℕ) (s : TheCoreThread) (o : TheFinishedCore)
-      → (given_is : slice_get w.ran.ran.ran.core_threads n ≡ Some s)
-      → (left_is : slice_get w.ran.ran.ran.outcomes n ≡ Some o)
-      → IsPrefix (events_at n (joined_in w).jobs (begun w) moments ys h)
-      (follow n s o given_is left_is).turned.events
-
-  -- of all that they did
-  abbrev pub AreAllTheirTurns : (moments : List Moment) (ys : List JoinedCore)
-      → Interleaves (joined_in w).jobs (begun w) moments ys → Type 0
-  AreAllTheirTurns moments ys h = (n : ℕ) (s : TheCoreThread) (o : TheFinishedCore)
-      → (given_is : slice_get w.ran.ran.ran.core_threads n ≡ Some s)
-      → (left_is : slice_get w.ran.ran.ran.outcomes n ≡ Some o)
-      → events_at n (joined_in w).jobs (begun w) moments ys h ≡ (follow n s o given_is left_is).turned.events
-
--- the events of core n in steps, each with the core behind it
-abbrev pub steps_at : ℕ → (jobs : List CoreJob) (pending : OpenLooks) (xs : List JoinedCore) (steps : List CoreStep)
-    (ys : List JoinedCore) → StepByStep jobs pending xs steps ys → List (TurnEvent TheSide)
-steps_at n jobs pending xs [] ys h = []
-steps_at n jobs pending xs (acts m log_entry ∷ steps) ys h =
-    (if m == n then event log_entry (alone h.2.1.after) ∷ [] else []) ++ steps_at n jobs pending h.2.0 steps ys h.2.2
-steps_at n jobs pending xs (looks m look ∷ steps) ys h =
-    (if m == n then event look (alone h.2.1.after) ∷ [] else [])
-    ++ steps_at n jobs (with_look m (Some look) pending) h.2.0 steps ys h.2.2
-steps_at n jobs pending xs (follows m look log_entry ∷ steps) ys h =
-    (if m == n then event log_entry (alone h.2.1.after) ∷ [] else [])
-    ++ steps_at n jobs (with_look m None pending) h.2.0 steps ys h.2.2
-
--- steps of what the cores did: of each core's turns the first events, up to any moment
-abbrev pub AreTheirSteps : {c : TheConfig} {jobs : List Job} {limit : ℕ} {r : TheReport}
-    (w : Reports c jobs limit r) → CoresFollow w → (steps : List CoreStep) (ys : List JoinedCore)
-    → StepByStep (joined_in w).jobs none_open (begun w) steps ys → Type 0
-AreTheirSteps w follow steps ys h = (n : ℕ) (s : TheCoreThread) (o : TheFinishedCore)
-    → (given_is : slice_get w.ran.ran.ran.core_threads n ≡ Some s)
-    → (left_is : slice_get w.ran.ran.ran.outcomes n ≡ Some o)
-    → IsPrefix (steps_at n (joined_in w).jobs none_open (begun w) steps ys h)
-    (follow n s o given_is left_is).turned.events
-
 module _ {c : TheConfig} {jobs : List Job} {limit : ℕ} {r : TheReport} (w : Reports c jobs limit r) where
   -- these are the cores as they were left, of which the report tells
   abbrev pub AreLeft : List JoinedCore → Type 0
   AreLeft ys = (n : ℕ) (o : TheFinishedCore) → slice_get w.ran.ran.ran.outcomes n ≡ Some o
       → (y : JoinedCore) × (slice_get ys n ≡ Some y) × (y.run ≡ o.run)
-
--- So is an interleaving of what they did, at any moment at which no look waits for what follows it
-abbrev pub TheirTurnsJoin : Type 0
-TheirTurnsJoin = (c : TheConfig) (jobs : List Job) (limit : ℕ) (r : TheReport) (w : Reports c jobs limit r)
-    (follow : CoresFollow w) (moments : List Moment) (ys : List JoinedCore)
-    → (h : Interleaves (joined_in w).jobs (begun w) moments ys) → AreTheirTurns w follow moments ys h
-    → AllAreNumbered (joined_in w).jobs (begins c jobs) (begun w) moments ys h
-    → MachineRuns (asked_in (joined_in w).jobs (begun w) moments ys h) (begins c jobs) ys
-
--- and such steps,
-abbrev pub TheirStepsJoin : Type 0
-TheirStepsJoin = (c : TheConfig) (jobs : List Job) (limit : ℕ) (r : TheReport) (w : Reports c jobs limit r)
-    (follow : CoresFollow w) (steps : List CoreStep) (ys : List JoinedCore)
-    → (h : StepByStep (joined_in w).jobs none_open (begun w) steps ys) → AreTheirSteps w follow steps ys h
-    → StepsRun w steps ys
-
--- and steps to which such ones come when neighbours change places, of which neither puts anything to where the
--- other goes: so accepted openings may be brought into the order of their numbers,
-abbrev pub ExchangedStepsJoin : Type 0
-ExchangedStepsJoin = (c : TheConfig) (jobs : List Job) (limit : ℕ) (r : TheReport) (w : Reports c jobs limit r)
-    (follow : CoresFollow w) (steps others : List CoreStep) (ys : List JoinedCore) (changes : ℕ)
-    → (h : StepByStep (joined_in w).jobs none_open (begun w) steps ys) → AreTheirSteps w follow steps ys h
-    → ComeTo (joined_in w).jobs none_open (begun w) ys changes steps others → StepsRun w others ys
-
--- and an order of all that they did ends with the cores as they were left.
-abbrev pub TheirTurnsEnd : Type 0
-TheirTurnsEnd = (c : TheConfig) (jobs : List Job) (limit : ℕ) (r : TheReport) (w : Reports c jobs limit r)
-    (follow : CoresFollow w) (moments : List Moment) (ys : List JoinedCore)
-    → (h : Interleaves (joined_in w).jobs (begun w) moments ys) → AreAllTheirTurns w follow moments ys h
-    → AreLeft w ys

@@ -1,29 +1,46 @@
 //! What a run of cores is of the one machine: laws, as the contracts of functions that do nothing.
 
 ghost use Rattle.fl_cores_whole.specs.AnyOrder.{ReportsJoinInAnyOrder, StepsJoinInAnyOrder};
-ghost use Rattle.fl_cores_whole.specs.AnyOrder.{TheirStepsJoinInAnyOrder, TheirTurnsJoinInAnyOrder};
 ghost use Rattle.fl_cores_whole.specs.Begin.{HandedOutJoin};
-ghost use Rattle.fl_cores_whole.specs.Holds.{ReportsHold, RunsUnderSomeHold, TheirTurnsHold};
-ghost use Rattle.fl_cores_whole.specs.Next.{OrdersGoOn, TheirNextEventsHappen};
+ghost use Rattle.fl_cores_whole.specs.Holds.{ReportsHold, RunsUnderSomeHold};
+ghost use Rattle.fl_cores_whole.specs.Machine.{ReportsAreMachineRuns};
 ghost use Rattle.fl_cores_whole.specs.One.{OneCoreJoins};
-ghost use Rattle.fl_cores_whole.specs.Told.{CallsStay, TheirCallsAreTold, TheirCallsAreToldInAnyOrder};
 ghost use Rattle.fl_cores_whole.specs.Wants.{TurnsWantAlike};
-ghost use Rattle.fl_cores_whole.specs.Whole.{ExchangedStepsJoin, ReportsJoin, StepsOfReportsJoin};
-ghost use Rattle.fl_cores_whole.specs.Whole.{TheirStepsJoin, TheirTurnsEnd, TheirTurnsJoin};
+ghost use Rattle.fl_cores_whole.specs.Whole.{ReportsJoin, StepsOfReportsJoin};
 
 use fl_core_refines::law_set_ups_start_fresh;
 use fl_core_run_laws::{law_leads_at_first, law_sides_go};
 use fl_cores::law_reports_are_of_runs;
-use fl_cores_joined::{
-    law_neighbours_exchange, law_own_events_join, law_runs_join, law_runs_join_in_any_order,
-    law_steps_interleave,
-};
+use fl_cores_joined::{law_runs_join, law_runs_join_in_any_order, law_steps_interleave};
 use fl_cores_laws::{law_cores_go, law_ends_are_at_home, law_ends_are_requested};
 use fl_cores_shares::law_handed_out_go_on;
+use fl_history_joined::{law_orders_are_runs, law_runs_are_of_turns};
+use fl_history_orders::law_logs_have_one_order;
 use fl_link::TakeSide;
 use fl_model_laws::{law_no_wire_faults, law_numbers_are_once_both_ways};
 use fl_ring::SharedSide;
 use fl_world_laws::{law_handled_is_ever_a_prefix, law_passed_ever_falls};
+
+/// Each reported run is a run of the machine: of what its cores did in their turns there is an order, in which each
+/// look finds what stands in its ring, from the cores as the run began to those that it left. Under a renaming of
+/// bindings the machine answers as they did, and each end handled just the calls that the report tells. No premise
+/// gives the order: all sides of rings were of one table, and one order has all that was done there.
+pub fn law_reports_are_machine_runs()
+    ensures runs { ReportsAreMachineRuns }
+{
+    law_set_ups_start_fresh();
+    law_leads_at_first();
+    law_cores_go();
+    law_handed_out_go_on();
+    law_sides_go::<SharedSide>();
+    law_ends_are_requested();
+    law_ends_are_at_home();
+    law_reports_are_of_runs();
+    law_logs_have_one_order();
+    law_runs_are_of_turns();
+    law_orders_are_runs();
+    law_reports_join_in_any_order();
+}
 
 /// What a set-up made, once its cores, rings and queues are handed out to threads, is the world that these
 /// cores make.
@@ -50,67 +67,19 @@ pub fn law_steps_join()
     law_reports_join();
 }
 
-/// So is such an order of what they did in their turns, at any moment at which no look waits for what follows
-/// it, and entry by entry at any moment at all, also when neighbours have changed places there, of which neither
-/// puts anything to where the other goes; and one of all that they did ends with the cores of which the report
-/// tells.
-pub fn law_their_turns_join()
-    ensures runs { TheirTurnsJoin }
-    ensures steps { TheirStepsJoin }
-    ensures exchanged { ExchangedStepsJoin }
-    ensures end { TheirTurnsEnd }
-{
-    law_neighbours_exchange();
-    law_reports_join();
-    law_steps_join();
-}
-
 /// What the cores of a reported run do one after another, where each look finds what stands in its ring at that
 /// moment, is a run of the machine from behind the set-up in whatever order they accept openings, as long as each is
 /// whole then: with their answers, to a state that they show, both under one renaming of bindings. It joins no two,
 /// keeps those of the set-up, and gives accepted openings the next numbers, in that order. So it is entry by entry,
-/// where looks that nothing followed yet are still to come; and of what they did in their turns, at any moment at
-/// which no look waits for what follows it, and entry by entry at any moment at all.
+/// where looks that nothing followed yet are still to come.
 pub fn law_reports_join_in_any_order()
     ensures runs { ReportsJoinInAnyOrder }
-    ensures turns { TheirTurnsJoinInAnyOrder }
     ensures steps { StepsJoinInAnyOrder }
-    ensures turned_steps { TheirStepsJoinInAnyOrder }
 {
     law_set_ups_start_fresh();
     law_leads_at_first();
     law_runs_join_in_any_order();
     law_steps_interleave();
-}
-
-/// In an order of all that they did, each end handled just the calls that the report tells: no core but its own
-/// handles a call there. Under a renaming an end handles the same calls, so the machine's run
-/// under one has them too, at that end's number there.
-pub fn law_their_calls_are_told()
-    ensures told { TheirCallsAreTold }
-    ensures stay { CallsStay }
-    ensures under { TheirCallsAreToldInAnyOrder }
-{
-    law_set_ups_start_fresh();
-    law_leads_at_first();
-    law_cores_go();
-    law_handed_out_go_on();
-    law_sides_go::<SharedSide>();
-    law_ends_are_requested();
-    law_ends_are_at_home();
-    law_reports_are_of_runs();
-}
-
-/// Behind what each order of their steps comes to, whatever a core did next in its turns happens, as soon as each of
-/// its sides finds what stands for it. An order with it is one step longer, where it is in turn: what follows a look
-/// behind that.
-pub fn law_next_events_happen()
-    ensures next { TheirNextEventsHappen }
-    ensures longer { OrdersGoOn }
-{
-    law_set_ups_start_fresh();
-    law_leads_at_first();
-    law_own_events_join();
 }
 
 /// There are such orders: with one core, all that it did in its turns is one, and each premise of
@@ -121,12 +90,11 @@ pub fn law_one_core_joins()
 
 /// In all of it no core meets a fault of received fragments, or a circuit without an entry; what an end
 /// handled is a prefix of what the other end accepted; no more fragments have passed a station of a way than
-/// the one before it; and a circuit's number on a link was given once. So it is of what the cores did in their
-/// turns, at any moment at which no look waits for what follows it; and of each run of
-/// [`law_reports_join_in_any_order`], of the ends and bindings under its renaming: so, entry by entry, at any moment.
+/// the one before it; and a circuit's number on a link was given once. So it is of each run of
+/// [`law_reports_join_in_any_order`], so of that of [`law_reports_are_machine_runs`], of the ends and bindings under
+/// its renaming.
 pub fn law_reports_hold()
     ensures hold { ReportsHold }
-    ensures turns { TheirTurnsHold }
     ensures under { RunsUnderSomeHold }
 {
     law_no_wire_faults();
@@ -134,7 +102,6 @@ pub fn law_reports_hold()
     law_passed_ever_falls();
     law_numbers_are_once_both_ways();
     law_reports_join();
-    law_their_turns_join();
 }
 
 /// A dispatcher's turn in a world wants memory for just what one of a running core wants it for: to handle a call.

@@ -1,0 +1,4 @@
+pub mod Idle
+pub mod Logging
+pub mod Steps
+pub mod Telling

@@ -1,0 +1,3 @@
+pub mod InTurn
+pub mod Logged
+pub mod Runs
