@@ -60,13 +60,15 @@ uint32_t flounder_make_text_program(const uint8_t *text, size_t length, uint32_t
 uint32_t flounder_make_image_program(const uint8_t *image, size_t length, uint8_t **program);
 fl_answer flounder_make_run(uint8_t *program, uint32_t kind, uint8_t **run);
 fl_answer flounder_use(uint8_t *handle, uint32_t what, uint64_t *numbers, size_t count);
-/* What flounder_use does for 1, 2, 6, 7, 8 and 9. */
+/* What flounder_use does for 1, 2, 6, 7, 8, 9, 16 and 17. */
 fl_answer flounder_put(uint8_t *handle, uint64_t *numbers, size_t count);
 fl_answer flounder_take(uint8_t *handle, uint64_t *numbers, size_t count);
 fl_answer flounder_call(uint8_t *handle, uint64_t *numbers, size_t count);
 fl_answer flounder_write(uint8_t *handle, uint64_t *numbers, size_t count);
 fl_answer flounder_receive(uint8_t *handle, uint64_t *numbers, size_t count);
 fl_answer flounder_read(uint8_t *handle, uint64_t *numbers, size_t count);
+fl_answer flounder_send(uint8_t *handle, uint64_t *numbers, size_t count);
+fl_answer flounder_take_call(uint8_t *handle, uint64_t *numbers, size_t count);
 void rattle_dealloc(void *at);
 
 /* Frees what a handle leads to, and its own block. */
@@ -214,6 +216,35 @@ static inline unsigned fl_read(fl_end *end, uint64_t *call, size_t room, uint64_
 {
     if (!end || !end->at || !call || !count) return FL_NULL;
     fl_answer answer = flounder_read(end->at, call, room);
+    *count = answer.count;
+    return answer.fault;
+}
+
+/* Makes a call as `fl_call` does, and puts its first fragment as `fl_write` does: both in one, for speed. FL_WROTE: it is
+ * put, and `*left`, unless null, says how many follow; FL_NO_ROOM: the call is in transmission, and nothing of it is put.
+ * What is left goes out by `fl_write`. With a fault FL_IDLE says that the call is refused, and FL_NO_ROOM that it is in
+ * transmission all the same (33). */
+static inline unsigned fl_send(fl_end *end, uint64_t *call, size_t count, unsigned *came, uint64_t *left)
+{
+    if (!came) return FL_NULL;
+    *came = FL_IDLE;
+    if (!end || !end->at || !call) return FL_NULL;
+    fl_answer answer = flounder_send(end->at, call, count);
+    *came = answer.what;
+    if (left) *left = answer.fault ? 0 : answer.count;
+    return answer.fault;
+}
+
+/* Takes a fragment as `fl_receive` does, and reads the call that it makes whole as `fl_read` does: both in one, for speed.
+ * After FL_CALL without a fault `*count` numbers stand in `call`. With a fault FL_CALL says that a call was taken, and is to
+ * be read by `fl_read`: FL_WRONG_ROOM: `*count` numbers are wanted; 99: out of memory. Else nothing is written to `call`. */
+static inline unsigned fl_take_call(fl_end *end, uint64_t *call, size_t room, unsigned *came, uint64_t *count)
+{
+    if (!came) return FL_NULL;
+    *came = FL_EMPTY;
+    if (!end || !end->at || !call || !count) return FL_NULL;
+    fl_answer answer = flounder_take_call(end->at, call, room);
+    *came = answer.what;
     *count = answer.count;
     return answer.fault;
 }

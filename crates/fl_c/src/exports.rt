@@ -10,7 +10,8 @@ ghost use Rattle.fl_c_operations.specs.Making.{plan_at, AnswersTextEnds, Answers
 
 use fl_c_operations::{
     Answered, Handle, HeldProgram, Outcome, UseFault, boxed, hand_one, hand_out, image_ends,
-    image_program, new_run, ring_handles, text_ends, text_program, use_handle,
+    image_program, new_run, ring_handles, text_ends, text_program, use_handle, use_sending,
+    use_taking,
 };
 use fl_endpoint::EndFault;
 use fl_ring::RingFault;
@@ -200,4 +201,32 @@ pub unsafe extern "C" fn flounder_use(handle: *mut u8, what: u32, numbers: &mut 
     ensures* { ∃ₛ (λ (after : Handle). sem 𝓛 (points_to the_row handle after) ∗ ⌜ Uses before what numbers.old result after numbers.new ⌝) }
 {
     use_handle(&mut *(handle as *mut Handle), what, numbers)
+}
+
+/// The same by [`use_sending`].
+#[inline(always)]
+pub(crate) unsafe fn flounder_use_sending(
+    handle: *mut u8,
+    what: u32,
+    numbers: &mut [u64],
+) -> Answered
+    ghost before: { Handle }
+    requires* { sem 𝓛 (points_to the_row handle before) }
+    ensures* { ∃ₛ (λ (after : Handle). sem 𝓛 (points_to the_row handle after) ∗ ⌜ Uses before what numbers.old result after numbers.new ⌝) }
+{
+    use_sending(&mut *(handle as *mut Handle), what, numbers)
+}
+
+/// The same by [`use_taking`].
+#[inline(always)]
+pub(crate) unsafe fn flounder_use_taking(
+    handle: *mut u8,
+    what: u32,
+    numbers: &mut [u64],
+) -> Answered
+    ghost before: { Handle }
+    requires* { sem 𝓛 (points_to the_row handle before) }
+    ensures* { ∃ₛ (λ (after : Handle). sem 𝓛 (points_to the_row handle after) ∗ ⌜ Uses before what numbers.old result after numbers.new ⌝) }
+{
+    use_taking(&mut *(handle as *mut Handle), what, numbers)
 }

@@ -16,5 +16,6 @@ pub use exports::{
     flounder_make_text_ends, flounder_make_text_program, flounder_use,
 };
 pub use shortcuts::{
-    flounder_call, flounder_put, flounder_read, flounder_receive, flounder_take, flounder_write,
+    flounder_call, flounder_put, flounder_read, flounder_receive, flounder_send, flounder_take,
+    flounder_take_call, flounder_write,
 };

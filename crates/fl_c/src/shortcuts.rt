@@ -6,7 +6,7 @@ ghost use Rattle.std.specs.Ptr.{points_to};
 ghost use Rattle.fl_c_operations.specs.contracts.handle.Handle.{the_row};
 ghost use Rattle.fl_c_operations.specs.Handles.{Uses};
 
-use crate::exports::flounder_use;
+use crate::exports::{flounder_use, flounder_use_sending, flounder_use_taking};
 use fl_c_operations::{Answered, Handle};
 
 /// Puts a fragment at a side of a ring (1).
@@ -67,4 +67,24 @@ pub unsafe extern "C" fn flounder_read(handle: *mut u8, numbers: &mut [u64]) -> 
     ensures* { ∃ₛ (λ (after : Handle). sem 𝓛 (points_to the_row handle after) ∗ ⌜ Uses before 9 numbers.old result after numbers.new ⌝) }
 {
     flounder_use(handle, 9, numbers)
+}
+
+/// Makes a call at an end, and puts its first fragment (16).
+#[unsafe(no_mangle)]
+pub unsafe extern "C" fn flounder_send(handle: *mut u8, numbers: &mut [u64]) -> Answered
+    ghost before: { Handle }
+    requires* { sem 𝓛 (points_to the_row handle before) }
+    ensures* { ∃ₛ (λ (after : Handle). sem 𝓛 (points_to the_row handle after) ∗ ⌜ Uses before 16 numbers.old result after numbers.new ⌝) }
+{
+    flounder_use_sending(handle, 16, numbers)
+}
+
+/// Takes a fragment at an end, and reads the call that it makes whole (17).
+#[unsafe(no_mangle)]
+pub unsafe extern "C" fn flounder_take_call(handle: *mut u8, numbers: &mut [u64]) -> Answered
+    ghost before: { Handle }
+    requires* { sem 𝓛 (points_to the_row handle before) }
+    ensures* { ∃ₛ (λ (after : Handle). sem 𝓛 (points_to the_row handle after) ∗ ⌜ Uses before 17 numbers.old result after numbers.new ⌝) }
+{
+    flounder_use_taking(handle, 17, numbers)
 }

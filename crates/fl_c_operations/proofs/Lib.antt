@@ -6,6 +6,8 @@ mod HandleSends
 mod HeldSends
 mod Looking
 mod Messages
+mod OneFragment
+mod Pairs
 mod Refused
 mod Receives
 mod RunSends
@@ -14,3 +16,4 @@ mod Shorts
 mod Sizes
 mod Starts
 mod Taped
+mod Uses

@@ -1,11 +1,15 @@
 -- A receive by a side that has seen what stands first is a receive by that side, which looks once.
-use Rattle.std.proofs.Common.{◌≡◌, Option, Some, None, Result, Ok, Err, refl, sym, ap, subst, ◌∙◌, ℕ, List}
-use Rattle.std.specs.Prelude.{IsSome}
-use Rattle.std.proofs.lemmas.Bool.{false≢true}
+use Rattle.std.proofs.Common.{◌≡◌, ◌<◌, ◌≤◌, ⊎_elim, Bool, Option, Some, None, Result, Ok, Err, refl, sym, ap, subst, ◌∙◌, ℕ, List}
+use Rattle.std.specs.Prelude.{IsSome, OnOk}
+use Rattle.std.proofs.lemmas.Bool.{false≢true, cases_lt}
 use Rattle.fl_base.specs.declared.fragment.Frag.{Frag}
-use Rattle.fl_base.specs.Control.{bare}
-use Rattle.fl_link.specs.Looks.{Look, saw, saw_ack, found, found_ack, missed}
-use Rattle.fl_ring.specs.SharedSides.{TheSide, SharedTakes}
+use Rattle.fl_base.specs.Control.{bare, told_of}
+use Rattle.fl_link.specs.Looks.{Look, placed, no_room, spent, saw, saw_ack, found, found_ack, missed}
+use Rattle.fl_link.specs.declared.fault.PutFault.{PutFault}
+use Rattle.fl_link.specs.declared.fault.PutFault.TheVariants.{Full, Spent as RingSpent}
+use Rattle.fl_ring.specs.Counts.{count_from}
+use Rattle.fl_ring.specs.SharedSeats.{front_seen}
+use Rattle.fl_ring.specs.SharedSides.{TheSide, free_of, side_missed, side_counted, MayStand, KnowsSent, Looked, SharedPuts, SharedTakes}
 use Rattle.fl_machine.specs.Reassembling.{TheReassembly}
 use Rattle.fl_endpoint.specs.declared.answer.ReceiveAnswer.{ReceiveAnswer}
 use Rattle.fl_endpoint.specs.declared.answer.ReceiveAnswer.TheVariants.{Handle, Part, Quiet, Empty, HeldBack}
@@ -14,7 +18,11 @@ use Rattle.fl_endpoint.specs.declared.fault.EndFault.TheVariants.{Spent, Busy, U
 use Rattle.fl_endpoint.specs.View.{TheEnd, with_parts}
 use Rattle.fl_endpoint.specs.Events.{IsOpen, Receives}
 use Rattle.fl_endpoint.specs.Lent.{receipt, ReceivesAt}
-use Rattle.fl_c_operations.specs.Seen.{SeenTakes, IsAfterLook}
+use Rattle.fl_c_operations.specs.declared.glance.Glance.TheVariants.{Untaken}
+use Rattle.fl_c_operations.specs.Transmissions.{IsShortAt}
+use Rattle.fl_c_operations.specs.Seen.{IsSeen, SeenTakes, IsAfterLook}
+use Rattle.fl_c_operations.specs.Glances.{TakesShort, Glances}
+use Rattle.fl_c_operations.proofs.Receives.{bare_twice}
 
 not_none : {A : Type 0} (o : Option A) → IsSome o → o ≡ None → ⊥
 not_none None some e = absurd cc
@@ -109,3 +117,41 @@ module _ {T : Type 0} (takes : T → Look → T → Type 0) (side : T → TheSid
 
     pub lent_over : (s : TheEnd) → IsAfterLook s p (seen a) (side a) → GoesOver takes side a b p s
     lent_over s h = lent_by s (seen a) refl h
+
+-- where nothing was looked at
+pub unlooked : (s : TheEnd) (between : Bool) (p : TheSide) (o : Option Frag) → o ≡ None → Glances s between p Untaken o p
+unlooked s between p None e = (refl, λ some. absurd (cc))
+unlooked s between p (Some frag) e = absurd (cc)
+
+-- a fragment that was seen is taken
+pub taken_seen : (s : TheEnd) (p m q : TheSide) (f : Frag) (msg : ℕ) (tape : List ℕ) (seen : Option Frag) → seen ≡ Some f → IsAfterLook s p seen m → SharedTakes m (found (bare f)) q
+    → IsShortAt s msg tape (bare f) → IsSome seen × TakesShort s p msg tape q
+taken_seen s p m q f msg tape None e lent gets at = absurd (cc)
+taken_seen s p m q f msg tape (Some g) e lent gets at =
+    let same : g ≡ f = cc in
+    let sees = subst (λ (x : Frag). SharedTakes p (saw (bare x)) m) same lent.1 in
+    (refl, (lent.0, (bare f, m, bare_twice f, sees, gets, at)))
+
+-- ---- a fragment is put
+
+looked_still : (need : ℕ) (s m : TheSide) → Looked need s m → m.peeked ≡ s.peeked
+looked_still need s m looked = ⊎_elim
+    (λ (few : free_of s < need). ⊎_elim
+    (λ (missed : (s.peeked ≡ None) × (m ≡ side_missed s)). ap (λ (x : TheSide). x.peeked) missed.1)
+    (λ (counted : (control : ℕ) × MayStand s control × (m ≡ side_counted s (count_from s.known (told_of control))) × KnowsSent m). ap (λ (x : TheSide). x.peeked) counted.2)
+    (looked.by_look few))
+    (λ (enough : need ≤ free_of s). ap (λ (x : TheSide). x.peeked) (looked.by_known enough))
+    (cases_lt (free_of s) need)
+
+-- what was seen stands there still
+pub seen_still : (seen : Option Frag) (p q : TheSide) (f : Frag) (r : Result (Unit {0}) PutFault) → IsSeen seen p → OnOk r (SharedPuts p (placed (bare f)) q) → (r ≡ Err Full → SharedPuts p no_room q)
+    → (r ≡ Err RingSpent → SharedPuts p spent q) → IsSeen seen q
+seen_still None p q f r at ok full gone = tt
+seen_still (Some g) p q f (Ok done) at ok full gone =
+    let (of_call, few, (m, looked, room, is)) = ok in
+    let same : q.peeked ≡ p.peeked = ap (λ (x : TheSide). x.peeked) is ∙ looked_still 2 p m looked in
+    (ap front_seen same ∙ at.0, at.1)
+seen_still (Some g) p q f (Err Full) at ok full gone =
+    let (few, looked, none, still) = full refl in
+    (ap front_seen (looked_still 2 p q looked) ∙ at.0, at.1)
+seen_still (Some g) p q f (Err RingSpent) at ok full gone = (ap (λ (x : TheSide). front_seen x.peeked) (gone refl).1 ∙ at.0, at.1)

@@ -11,6 +11,7 @@ use Rattle.fl_compile.specs.Programs.{TheProgram}
 use Rattle.fl_endpoint.specs.declared.fault.EndFault.TheVariants.{Spent, Busy, UnknownMessage, Misfit, NotBound, Failed, Wire, Memory}
 use Rattle.fl_c_operations.specs.declared.answer.UseFault.{UseFault}
 use Rattle.fl_c_operations.specs.declared.answer.UseFault.TheVariants.{NoSuchOperation, WrongRoom, ShortRoom, Unread, OnlyAcknowledges, Link, End}
+use Rattle.fl_c_operations.specs.declared.answer.UseFault.TheVariants.{Unwritten, HandledShort, HandledMemory}
 use Rattle.fl_c_operations.specs.Calls.{AreCall, RefusesNumbers, LacksCall}
 
 pub known : (ms : List TheMessage) (n : ℕ) (ds : List Datum) → fit_message (slice_get ms n) ds ≡ true → n < length ms
@@ -33,6 +34,9 @@ refused x numbers NoSuchOperation h = absurd h
 refused x numbers (ShortRoom wanted) h = absurd h
 refused x numbers Unread h = absurd h
 refused x numbers OnlyAcknowledges h = absurd h
+refused x numbers (Unwritten fault) h = absurd h
+refused x numbers (HandledShort wanted) h = absurd h
+refused x numbers HandledMemory h = absurd h
 refused x numbers (Link fault) h = absurd h
 
 -- a call that has the tape, by the program's own interface and plan

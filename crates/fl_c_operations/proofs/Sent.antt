@@ -58,7 +58,7 @@ own_frags circuit plan i c m k =
 
 -- ---- how many they are
 
-length_frags : (circuit : ℕ) (plan : PlanNo) (i : TheInterface) (c : TheCall) → length (frags_on circuit plan i c) ≡ count plan i c
+pub length_frags : (circuit : ℕ) (plan : PlanNo) (i : TheInterface) (c : TheCall) → length (frags_on circuit plan i c) ≡ count plan i c
 length_frags circuit plan i c =
     length-map (range_with_len 0 (count plan i c)) (frag_on circuit c.msg (payload_of plan i c)) ∙ length-range_with_len 0 (count plan i c)
 

@@ -26,11 +26,11 @@ message_in : (o : Option TheMessage) (ds : List Datum) → fit_message o ds ≡ 
 message_in None ds h = absurd (false≢true h)
 message_in (Some m) ds h = (m, refl)
 
-message_of_call : (i : TheInterface) (c : TheCall) → fits_of i c ≡ true → (m : TheMessage) × (slice_get i.messages c.msg ≡ Some m)
+pub message_of_call : (i : TheInterface) (c : TheCall) → fits_of i c ≡ true → (m : TheMessage) × (slice_get i.messages c.msg ≡ Some m)
 message_of_call i c fits = message_in (slice_get i.messages c.msg) c.args fits
 
 -- the code is that of the message
-code_is : (x : TheProgram) (n : ℕ) (m : TheMessage) (code : TheCode) → slice_get x.interface.messages n ≡ Some m → Some code ≡ code_in Send x n → code ≡ compiled_code Send x.plan m
+pub code_is : (x : TheProgram) (n : ℕ) (m : TheMessage) (code : TheCode) → slice_get x.interface.messages n ≡ Some m → Some code ≡ code_in Send x n → code ≡ compiled_code Send x.plan m
 code_is x n m code there some = cc
 
 -- the fragments left are the call's

@@ -9,11 +9,13 @@ use Rattle.fl_base.specs.Control.{bare}
 use Rattle.fl_interface.specs.Limits.{is_within_limits}
 use Rattle.fl_value_data.specs.Value.{TheCall, call_of}
 use Rattle.fl_value_data.specs.Fits.{fits_of}
-use Rattle.fl_link.specs.Looks.{Look}
+use Rattle.fl_link.specs.Looks.{Look, placed, no_room, spent}
+use Rattle.fl_ring.specs.SharedSides.{TheSide, SharedPuts}
 use Rattle.fl_machine.specs.Reassembling.{TheReassembly}
 use Rattle.fl_compile.specs.declared.program.Program.{Program}
 use Rattle.fl_compile.specs.Programs.{TheProgram, program_of}
 use Rattle.fl_codec.specs.declared.codec.Codec.{Codec}
+use Rattle.fl_c_operations.specs.declared.transmitting.Sent.TheVariants.{PutNow, NoRoom, RingSpent}
 use Rattle.fl_endpoint.specs.declared.answer.ReceiveAnswer.{ReceiveAnswer}
 use Rattle.fl_endpoint.specs.declared.answer.ReceiveAnswer.TheVariants.{Handle, Part, Quiet, Empty, HeldBack}
 use Rattle.fl_endpoint.specs.declared.fault.EndFault.{EndFault}
@@ -25,9 +27,10 @@ use Rattle.fl_endpoint.specs.Accounts.{Sound}
 use Rattle.fl_endpoint.specs.Stored.{IsOwn}
 use Rattle.fl_c_operations.proofs.Sent.{some_frags, idle_end, has_room, standing}
 use Rattle.fl_c_operations.specs.Codecs.{AreCodecs}
-use Rattle.fl_c_operations.specs.Shorts.{IsFragOfTape, AreNoShorts}
+use Rattle.fl_codec.specs.NumberPlaces.{has_few_numbers}
+use Rattle.fl_c_operations.specs.Shorts.{IsOfFew, IsFragOfTape, AreNoShorts}
 use Rattle.fl_c_operations.proofs.Shorts.{message_told}
-use Rattle.fl_c_operations.specs.Transmissions.{calls_left, all_of, with_outgoing, transmitting_frag, transmitting, Transmits, MayTransmit, holds_all, IsFragFrom, IsShortAt, IsNoShortAt}
+use Rattle.fl_c_operations.specs.Transmissions.{calls_left, all_of, with_outgoing, transmitting_frag, transmitting, Transmits, MayTransmit, holds_all, IsFragFrom, IsShortAt, IsNoShortAt, SendsOne}
 
 -- ---- what is to be sent
 
@@ -285,6 +288,25 @@ coded_after takes s t p q r calls place after codecs known h coded =
 pub wrote_transmitting : (f : Frag) (s : TheEnd) → Transmits f s → s ≡ with_outgoing s (goes_on (all_of s.outgoing))
 wrote_transmitting f s h = sym (ap (with_outgoing s) h.goes)
 
+-- a call of one fragment that is made and put at once
+pub sends_at_once : (s : TheEnd) (f : Frag) (c : TheCall) (p q : TheSide) → Sound s → IsOwn f → IsReady s → s.outgoing.unwritten ≡ [] → fits_of (interface_in s) c ≡ true → frags_from s c ≡ f ∷ []
+    → SharedPuts p (placed (bare f)) q → SendsOne s p c (Ok PutNow) s q
+sends_at_once s f c p q sound own ready idle fits frags puts =
+    let put = subst (λ (x : Frag). SharedPuts p (placed x) q) own.bare_is puts in
+    let one : 1 + 0 ≡ 1 = omega arith in
+    (transmitting_frag f s, calls_transmitting s f c ready idle fits frags, ((ready.0, ready.1), (f, [], refl, refl, one, put, wrote_transmitting f s (transmits_new s f sound own ready idle))))
+
+-- one that is made and not put: there is no room, or the ring is spent
+pub sends_none : (s : TheEnd) (f : Frag) (c : TheCall) (p q : TheSide) → IsReady s → s.outgoing.unwritten ≡ [] → fits_of (interface_in s) c ≡ true → frags_from s c ≡ f ∷ []
+    → SharedPuts p no_room q → SendsOne s p c (Ok NoRoom) (transmitting_frag f s) q
+sends_none s f c p q ready idle fits frags puts =
+    (transmitting_frag f s, calls_transmitting s f c ready idle fits frags, ((ready.0, ready.1), (λ e. absurd (cc)), puts, refl))
+
+pub sends_spent : (s : TheEnd) (f : Frag) (c : TheCall) (p q : TheSide) → IsReady s → s.outgoing.unwritten ≡ [] → fits_of (interface_in s) c ≡ true → frags_from s c ≡ f ∷ []
+    → SharedPuts p spent q → SendsOne s p c (Ok RingSpent) (transmitting_frag f s) q
+sends_spent s f c p q ready idle fits frags puts =
+    (transmitting_frag f s, calls_transmitting s f c ready idle fits frags, ((ready.0, ready.1), (λ e. absurd (cc)), puts, refl))
+
 -- ---- how many calls are to be sent
 
 pub all_busy : (us : List Frag) (ws : List (List Frag)) → true ≡ are_some us → length ws + 1 ≡ length (calls_left us ws)
@@ -333,11 +355,12 @@ no_short_transmitting None s f h = h
 no_short_transmitting (Some g) s f h = h
 
 -- there is a reply to the call by rule
-pub ruled : (s : TheEnd) (f : Frag) (msg reply : ℕ) (tape : List ℕ) → is_within_limits (interface_in s) ≡ true → IsFragOfTape (program_of s.program) 0 msg tape (bare f) → Some reply ≡ rule_at s.rules msg
-    → IsNoShortAt s (bare f)
-ruled s f msg reply tape within (e, has, only) rule d fits same none =
+pub ruled : (s : TheEnd) (f : Frag) (msg reply : ℕ) (tape : List ℕ) → is_within_limits (interface_in s) ≡ true
+    → has_few_numbers (slice_get (interface_in s).messages msg) ≡ true → IsFragOfTape (program_of s.program) 0 msg tape (bare f) → Some reply ≡ rule_at s.rules msg → IsNoShortAt s (bare f)
+ruled s f msg reply tape within few (e, has, only) rule d fits of_few same none =
     let x = program_of s.program in
-    let at : d.msg ≡ msg = sym (message_told x d f within fits same) ∙ message_told x e f within has.fits only ∙ has.message in
+    let few_too : IsOfFew x e = subst (λ (n : ℕ). has_few_numbers (slice_get (interface_in s).messages n) ≡ true) (sym has.message) few in
+    let at : d.msg ≡ msg = sym (message_told x d f within fits of_few same) ∙ message_told x e f within has.fits few_too only ∙ has.message in
     let gone : Some reply ≡ None = rule ∙ ap (rule_at s.rules) (sym at) ∙ none in
     absurd (cc)
 

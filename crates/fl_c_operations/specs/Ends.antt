@@ -7,7 +7,8 @@ use Rattle.fl_ring.specs.SharedSides.{TheSide, SharedPuts, SharedTakes}
 use Rattle.fl_machine.specs.Reassembling.{TheReassembly, ChangesPlace}
 use Rattle.fl_value_data.specs.Value.{TheCall}
 use Rattle.fl_endpoint.specs.declared.fault.EndFault.{EndFault}
-use Rattle.fl_endpoint.specs.declared.fault.EndFault.TheVariants.{UnknownMessage, Misfit}
+use Rattle.fl_endpoint.specs.declared.fault.EndFault.TheVariants.{UnknownMessage, Misfit, Memory}
+use Rattle.fl_endpoint.specs.declared.answer.WriteAnswer.{WriteAnswer}
 use Rattle.fl_endpoint.specs.declared.answer.WriteAnswer.TheVariants.{Written, Full, Nothing}
 use Rattle.fl_endpoint.specs.declared.answer.ReceiveAnswer.{ReceiveAnswer}
 use Rattle.fl_endpoint.specs.declared.answer.ReceiveAnswer.TheVariants.{Handle, Part, Quiet, Empty, HeldBack}
@@ -18,12 +19,16 @@ use Rattle.fl_c_operations.specs.declared.operation.Operation.{Operation}
 use Rattle.fl_c_operations.specs.declared.operation.Operation.TheVariants.{Tell, Call as ToCall, Write, Receive, Read, Rule, Busy as AskBusy}
 use Rattle.fl_c_operations.specs.declared.answer.Outcome.{Outcome}
 use Rattle.fl_c_operations.specs.declared.answer.Outcome.TheVariants.{Accepted, Wrote, NoRoom, Idle, Handled, PartTaken}
-use Rattle.fl_c_operations.specs.declared.answer.Outcome.TheVariants.{Acknowledgement, Nothing as NothingThere, Held, CallRead, RuleSet, Sending}
+use Rattle.fl_c_operations.specs.declared.answer.Outcome.TheVariants.{Acknowledgement, Nothing as NothingThere, Held, CallRead, CallTaken, RuleSet, Sending}
 use Rattle.fl_c_operations.specs.declared.answer.UseFault.{UseFault}
-use Rattle.fl_c_operations.specs.declared.answer.UseFault.TheVariants.{NoSuchOperation, WrongRoom, Unread, End}
+use Rattle.fl_c_operations.specs.declared.answer.UseFault.TheVariants.{NoSuchOperation, WrongRoom, ShortRoom, Unread, End, Unwritten, HandledShort, HandledMemory}
+use Rattle.fl_c_operations.specs.declared.answer.Answered.{Answered}
+use Rattle.fl_c_operations.specs.Numbers.{answer_of}
 use Rattle.fl_c_operations.specs.Sides.{Tells}
 use Rattle.fl_c_operations.specs.declared.unread.UnreadCall.{UnreadCall}
 use Rattle.fl_c_operations.specs.declared.unread.UnreadCall.TheVariants.{Whole}
+use Rattle.fl_c_operations.specs.declared.transmitting.Sent.{Sent}
+use Rattle.fl_c_operations.specs.Transmissions.{first_written}
 use Rattle.fl_c_operations.specs.Calls.{AreCall, RefusesNumbers, numbers_of_call, PutsNumbers}
 use Rattle.fl_c_operations.specs.View.{TheHeld, program_of_held, ChangesEnd}
 
@@ -54,6 +59,39 @@ WritesBy h (Ok Idle) t = Writes SharedPuts h.end h.side (Ok Nothing) t.end t.sid
 WritesBy h (Ok outcome) t = ⊥
 WritesBy h (Err (End fault)) t = Writes SharedPuts h.end h.side (Err fault) t.end t.side × (t.calls ≡ h.calls) × (t.handled ≡ h.handled)
 WritesBy h (Err fault) t = ⊥
+
+-- what a write comes to, as it is told
+abbrev pub written_as : Result WriteAnswer EndFault → Result Outcome UseFault
+written_as (Ok (Written number count)) = Ok (Wrote (count - number))
+written_as (Ok Full) = Ok NoRoom
+written_as (Ok Nothing) = Ok Idle
+written_as (Err fault) = Err (End fault)
+
+-- ---- a call is made, and its first fragment written
+
+-- what a write comes to behind a call that was accepted, as it is told
+abbrev pub unwritten_as : UseFault → UseFault
+unwritten_as (End fault) = Unwritten fault
+unwritten_as fault = fault
+
+abbrev pub sent_as : Result Outcome UseFault → Result Outcome UseFault
+sent_as (Ok outcome) = Ok outcome
+sent_as (Err fault) = Err (unwritten_as fault)
+
+-- what a call of one fragment that is made and put comes to, as it is told
+abbrev pub sent_one : Result Sent EndFault → Result Outcome UseFault
+sent_one (Err fault) = Err (End fault)
+sent_one (Ok sent) = sent_as (written_as (first_written sent))
+
+-- the call is refused; or it is accepted, and a write comes to what is told
+abbrev pub SendsBy : TheHeld → List ℕ → Result Outcome UseFault → TheHeld → Type 0
+SendsBy h numbers r t =
+    ((fault : UseFault) × (r ≡ Err fault) × CallsBy h numbers (Err fault) t)
+    ⊎ ((m : TheHeld) × (written : Result Outcome UseFault) × CallsBy h numbers (Ok Accepted) m × WritesBy m written t × (r ≡ sent_as written))
+
+-- the same, and what C is answered
+abbrev pub AnswersSend : TheHeld → List ℕ → Answered → TheHeld → Type 0
+AnswersSend h numbers answer t = (r : Result Outcome UseFault) × (answer ≡ answer_of r) × SendsBy h numbers r t
 
 -- ---- a fragment is taken
 
@@ -107,6 +145,32 @@ ReadsBy h room (Ok NothingThere) t written = (h.handled ≡ None) × (t ≡ h) �
 ReadsBy h room (Ok outcome) t written = ⊥
 ReadsBy h room (Err fault) t written =
     ((numbers : List ℕ) × (h.handled ≡ Some numbers) × PutsNumbers numbers room (Err fault) written) × (t ≡ h)
+
+-- ---- a fragment is taken, and the call that it makes whole read
+
+-- what a read is refused for behind a call that was handled, as it is told: too little room, or want of memory
+abbrev pub stays_as : UseFault → UseFault
+stays_as (ShortRoom wanted) = HandledShort wanted
+stays_as fault = HandledMemory
+
+-- what a read comes to behind a call that was handled, as it is told
+abbrev pub read_as : Outcome → Outcome
+read_as (CallRead count) = CallTaken count
+read_as outcome = outcome
+
+abbrev pub taken_as : Result Outcome UseFault → Result Outcome UseFault
+taken_as (Ok outcome) = Ok (read_as outcome)
+taken_as (Err fault) = Err (stays_as fault)
+
+-- a receive handles no call, and comes to what is told; or it handles one, and a read comes to that
+abbrev pub TakesCallBy : TheHeld → List ℕ → Result Outcome UseFault → TheHeld → List ℕ → Type 0
+TakesCallBy h room r t written =
+    (ReceivesBy h r t × (r ≢ Ok Handled) × (written ≡ room))
+    ⊎ ((m : TheHeld) × (read : Result Outcome UseFault) × ReceivesBy h (Ok Handled) m × ReadsBy m room read t written × (r ≡ taken_as read))
+
+-- the same, and what C is answered
+abbrev pub AnswersTakeCall : TheHeld → List ℕ → Answered → TheHeld → List ℕ → Type 0
+AnswersTakeCall h room answer t written = (r : Result Outcome UseFault) × (answer ≡ answer_of r) × TakesCallBy h room r t written
 
 -- ---- a reply rule is set
 

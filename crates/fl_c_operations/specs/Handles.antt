@@ -18,7 +18,7 @@ use Rattle.fl_c_operations.specs.declared.handle.Handle.TheVariants.{Side, End, 
 use Rattle.fl_c_operations.specs.Numbers.{operation_at, answer_of}
 use Rattle.fl_c_operations.specs.View.{TheHeld}
 use Rattle.fl_c_operations.specs.Sides.{UsesSide}
-use Rattle.fl_c_operations.specs.Ends.{UsesEnd}
+use Rattle.fl_c_operations.specs.Ends.{SendsBy, TakesCallBy, UsesEnd}
 use Rattle.fl_c_operations.specs.Runs.{AsksProgram, TheSender, UsesSender, IsNewSender, TheReceiver, UsesReceiver, IsNewReceiver}
 
 -- what the handle led to is freed, and its own block is left, of a handle's size and alignment
@@ -64,10 +64,22 @@ AnswersRun s kind answer = answer ≡ answer_of (Err NoSuchOperation)
 abbrev pub HandsRun : Handle → ℕ → Ptr → Answered → Handle → Ptr → Type 0
 HandsRun s kind at answer t after = (t ≡ s) × AnswersRun s kind answer × (answer.fault ≢ 0 → after ≡ at)
 
+-- a call is made at an end, and its first fragment written; nothing else sends calls
+abbrev pub SendsAt : Handle → List ℕ → Result Outcome UseFault → Handle → Type 0
+SendsAt (End end) numbers r t = (after : TheHeld) × (t ≡ End after) × SendsBy end numbers r after
+SendsAt s numbers r t = (r ≡ Err NoSuchOperation) × (t ≡ s)
+
+-- a fragment is taken at an end, and the call that it makes whole read; nothing else takes calls
+abbrev pub TakesCallAt : Handle → List ℕ → Result Outcome UseFault → Handle → List ℕ → Type 0
+TakesCallAt (End end) room r t written = (after : TheHeld) × (t ≡ End after) × TakesCallBy end room r after written
+TakesCallAt s room r t written = Refuses s room r t written
+
 -- a use of a handle: what this number asks for is done on these numbers
 pub record UsesAt (s : Handle) (what : ℕ) (numbers : List ℕ) (r : Result Outcome UseFault) (t : Handle) (written : List ℕ) : Type 0 where
   pub frees : what ≡ 5 → Frees numbers r t written
-  pub uses : what ≢ 5 → UsesKind (operation_at what) s numbers r t written
+  pub sends : what ≡ 16 → SendsAt s numbers r t × (written ≡ numbers)
+  pub takes_call : what ≡ 17 → TakesCallAt s numbers r t written
+  pub uses : what ≢ 5 → what ≢ 16 → what ≢ 17 → UsesKind (operation_at what) s numbers r t written
 
 -- the same, and what C is answered
 abbrev pub Uses : Handle → ℕ → List ℕ → Answered → Handle → List ℕ → Type 0

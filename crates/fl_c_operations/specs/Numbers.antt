@@ -7,12 +7,13 @@ use Rattle.fl_c_operations.specs.declared.operation.Operation.TheVariants.{Put, 
 use Rattle.fl_c_operations.specs.declared.operation.Operation.TheVariants.{Rule, Busy, Messages, Sizes, Next, Feed}
 use Rattle.fl_c_operations.specs.declared.answer.Outcome.{Outcome}
 use Rattle.fl_c_operations.specs.declared.answer.Outcome.TheVariants.{Fragment, Acknowledgement, Told, Wrote, NoRoom, Sending}
-use Rattle.fl_c_operations.specs.declared.answer.Outcome.TheVariants.{PartTaken, Held, Handled, CallRead, Counted, Sized, Freed}
+use Rattle.fl_c_operations.specs.declared.answer.Outcome.TheVariants.{PartTaken, Held, Handled, CallRead, CallTaken, Counted, Sized, Freed}
 use Rattle.fl_c_operations.specs.declared.answer.UseFault.{UseFault}
 use Rattle.fl_c_operations.specs.declared.answer.UseFault.TheVariants.{NoSuchOperation, WrongRoom, ShortRoom, Unread, OnlyAcknowledges, Link, End}
+use Rattle.fl_c_operations.specs.declared.answer.UseFault.TheVariants.{Unwritten, HandledShort, HandledMemory}
 use Rattle.fl_c_operations.specs.declared.answer.Answered.{Answered}
 
--- the operation of this number; 5 frees what a handle leads to
+-- the operation of this number; 5 frees what a handle leads to, and 16 and 17 are two operations in one
 abbrev pub operation_at : ℕ → Option Operation
 operation_at n =
     if n == 1 then Some Put
@@ -38,11 +39,22 @@ fault_of Unread = 105
 fault_of OnlyAcknowledges = 63
 fault_of (Link fault) = put_number fault
 fault_of (End fault) = fault_number fault
+fault_of (Unwritten fault) = fault_number fault
+fault_of (HandledShort wanted) = 103
+fault_of HandledMemory = 99
 
 -- how many numbers are wanted, where there are too few
 abbrev pub wanted_of : UseFault → ℕ
 wanted_of (ShortRoom wanted) = wanted
+wanted_of (HandledShort wanted) = wanted
 wanted_of fault = 0
+
+-- what was come to before a fault: no fragment of an accepted call is written, or a call was handled
+abbrev pub reached_of : UseFault → ℕ
+reached_of (Unwritten fault) = 2
+reached_of (HandledShort wanted) = 4
+reached_of HandledMemory = 4
+reached_of fault = 0
 
 -- which of the things that an operation may come to; of a message, how many bytes its longest payload has
 abbrev pub what_of : Outcome → ℕ
@@ -56,6 +68,7 @@ what_of Acknowledgement = 2
 what_of NoRoom = 2
 what_of Held = 3
 what_of Handled = 4
+what_of (CallTaken count) = 4
 what_of (Sized bytes numbers) = bytes
 what_of (Freed align size) = align
 what_of outcome = 0
@@ -65,6 +78,7 @@ abbrev pub count_of : Outcome → ℕ
 count_of Fragment = 8
 count_of (Wrote left) = left
 count_of (CallRead count) = count
+count_of (CallTaken count) = count
 count_of (Counted count) = count
 count_of (Sized bytes numbers) = numbers
 count_of (Freed align size) = size
@@ -73,4 +87,4 @@ count_of outcome = 0
 -- what C is answered
 abbrev pub answer_of : Result Outcome UseFault → Answered
 answer_of (Ok outcome) = record { fault = 0; what = what_of outcome; count = count_of outcome }
-answer_of (Err fault) = record { fault = fault_of fault; what = 0; count = wanted_of fault }
+answer_of (Err fault) = record { fault = fault_of fault; what = reached_of fault; count = wanted_of fault }

@@ -1,4 +1,4 @@
--- Calls of messages of few numbers: at most seven arguments, each a scalar or an enum. Each is one fragment.
+-- Calls of one fragment, and among them those of messages of few numbers: at most seven arguments, each a scalar or an enum.
 use Rattle.std.specs.Prelude.{◌≡◌, ℕ, true, false, List, [], ◌∷◌, slice_get}
 use Rattle.fl_base.specs.declared.fragment.Frag.{Frag}
 use Rattle.fl_value_data.specs.Value.{TheCall}
@@ -9,10 +9,13 @@ use Rattle.fl_compile.specs.Programs.{TheProgram}
 use Rattle.fl_codec.specs.NumberPlaces.{has_few_numbers}
 use Rattle.fl_c_operations.specs.Calls.{AreCall}
 
--- the call is of a message of few numbers, and this is its only fragment on a circuit
-pub record IsOnlyFrag (x : TheProgram) (circuit : ℕ) (c : TheCall) (f : Frag) : Type 0 where
-  pub few : has_few_numbers (slice_get x.interface.messages c.msg) ≡ true
-  pub frags : frags_on circuit x.plan x.interface c ≡ f ∷ []
+-- the call's message has at most seven arguments, each a scalar or an enum
+abbrev pub IsOfFew : TheProgram → TheCall → Type 0
+IsOfFew x c = has_few_numbers (slice_get x.interface.messages c.msg) ≡ true
+
+-- this is the call's only fragment on a circuit
+abbrev pub IsOnlyFrag : TheProgram → ℕ → TheCall → Frag → Type 0
+IsOnlyFrag x circuit c f = frags_on circuit x.plan x.interface c ≡ f ∷ []
 
 -- a fitting call of the message has this tape, and this is its only fragment
 abbrev pub IsFragOfTape : TheProgram → ℕ → ℕ → List ℕ → Frag → Type 0
@@ -28,4 +31,4 @@ AreNoShorts x numbers = (c : TheCall) → AreCall x numbers c → has_few_number
 
 -- this is the fragment, off circuits, of no fitting call of a message of few numbers
 abbrev pub IsNoShorts : TheProgram → Frag → Type 0
-IsNoShorts x f = (c : TheCall) → fits_of x.interface c ≡ true → IsOnlyFrag x 0 c f → ⊥
+IsNoShorts x f = (c : TheCall) → fits_of x.interface c ≡ true → IsOfFew x c → IsOnlyFrag x 0 c f → ⊥

@@ -1,17 +1,23 @@
 -- An end with a call of one fragment in transmission.
-use Rattle.std.specs.Prelude.{◌≡◌, ◌≤◌, ◌==◌, ◌&&◌, ℕ, Bool, true, List, [], ◌∷◌, length, Option, Some, None, IsSome, Err}
+use Rattle.std.specs.Prelude.{◌≡◌, ◌≤◌, ◌==◌, ◌&&◌, ℕ, Bool, true, List, [], ◌∷◌, length, Option, Some, None, IsSome, Result, Ok, Err}
 use Rattle.fl_base.specs.declared.fragment.Frag.{Frag}
+use Rattle.fl_ring.specs.SharedSides.{TheSide, SharedPuts}
 use Rattle.fl_value_data.specs.Value.{TheCall}
 use Rattle.fl_value_data.specs.Fits.{fits_of}
 use Rattle.fl_wire.specs.Words.{interface_words_fit}
 use Rattle.fl_compile.specs.Programs.{program_of}
 use Rattle.fl_endpoint.specs.declared.fault.EndFault.{EndFault}
 use Rattle.fl_endpoint.specs.View.{TheOutgoing, TheEnd, number_or_0, interface_in, begun, goes_on, has_rules, rule_at}
-use Rattle.fl_endpoint.specs.Events.{Calls}
+use Rattle.fl_endpoint.specs.declared.fault.EndFault.TheVariants.{Spent}
+use Rattle.fl_endpoint.specs.declared.answer.WriteAnswer.{WriteAnswer}
+use Rattle.fl_endpoint.specs.declared.answer.WriteAnswer.TheVariants.{Written, Full}
+use Rattle.fl_c_operations.specs.declared.transmitting.Sent.{Sent}
+use Rattle.fl_c_operations.specs.declared.transmitting.Sent.TheVariants.{PutNow, NoRoom, RingSpent}
+use Rattle.fl_endpoint.specs.Events.{Calls, Writes}
 use Rattle.fl_endpoint.specs.Stored.{IsOwn}
 use Rattle.fl_codec.specs.declared.codec.Codec.{Codec}
 use Rattle.fl_c_operations.specs.Codecs.{AreCodecs}
-use Rattle.fl_c_operations.specs.Shorts.{IsFragOfTape, IsFragOfNumbers, IsOnlyFrag}
+use Rattle.fl_c_operations.specs.Shorts.{IsOfFew, IsOnlyFrag, IsFragOfTape, IsFragOfNumbers}
 
 -- the calls that are to be sent, the one in transmission before those that wait
 abbrev pub calls_left : List Frag → List (List Frag) → List (List Frag)
@@ -74,4 +80,16 @@ pub record IsShortAt (s : TheEnd) (msg : ℕ) (tape : List ℕ) (f : Frag) : Typ
 
 -- this is the only fragment, off circuits, of no fitting call of a message of few numbers to which there is no reply by rule
 abbrev pub IsNoShortAt : TheEnd → Frag → Type 0
-IsNoShortAt s f = (c : TheCall) → fits_of (interface_in s) c ≡ true → IsOnlyFrag (program_of s.program) 0 c f → rule_at s.rules c.msg ≡ None → ⊥
+IsNoShortAt s f = (c : TheCall) → fits_of (interface_in s) c ≡ true → IsOfFew (program_of s.program) c → IsOnlyFrag (program_of s.program) 0 c f
+    → rule_at s.rules c.msg ≡ None → ⊥
+
+-- what the write of a call's only fragment comes to
+abbrev pub first_written : Sent → Result WriteAnswer EndFault
+first_written PutNow = Ok (Written 1 1)
+first_written NoRoom = Ok Full
+first_written RingSpent = Err Spent
+
+-- the call is refused; or it is accepted, and a write comes to this then
+abbrev pub SendsOne : TheEnd → TheSide → TheCall → Result Sent EndFault → TheEnd → TheSide → Type 0
+SendsOne s p c (Err fault) t q = Calls s c (Err fault) t × (q ≡ p)
+SendsOne s p c (Ok sent) t q = (m : TheEnd) × Calls s c (Ok tt) m × Writes SharedPuts m p (first_written sent) t q

@@ -1,5 +1,5 @@
 -- An end as a handle holds it.
-use Rattle.std.specs.Prelude.{◌≡◌, ℕ, true, Bool, List, [], ◌∷◌, slice_get, Option, Some, None}
+use Rattle.std.specs.Prelude.{◌≡◌, ℕ, true, Bool, List, [], ◌∷◌, take, slice_get, Option, Some, None}
 use Rattle.std.specs.Option.{option_map}
 use Rattle.fl_ring.specs.SharedSides.{TheSide}
 use Rattle.fl_machine.specs.Reassembling.{TheReassembly}
@@ -10,7 +10,7 @@ use Rattle.fl_codec.specs.Codecs.{numbers_of}
 use Rattle.fl_endpoint.specs.View.{TheEnd, fresh}
 use Rattle.fl_endpoint.specs.Lent.{AddsPlace, IsPlaceOf}
 use Rattle.fl_c_operations.specs.declared.unread.UnreadCall.{UnreadCall}
-use Rattle.fl_c_operations.specs.declared.unread.UnreadCall.TheVariants.{Whole, Short}
+use Rattle.fl_c_operations.specs.declared.unread.UnreadCall.TheVariants.{Whole, Short, Taped}
 use Rattle.fl_c_operations.specs.Calls.{numbers_of_call}
 
 -- an end with its side, the place of the calls that come to it, and the numbers of the call that it handled last, until that is read
@@ -27,10 +27,15 @@ program_of_held h = program_of h.end.program
 abbrev pub numbers_unread : TheProgram → UnreadCall → List ℕ
 numbers_unread x (Whole call) = numbers_of_call x (call_of call)
 numbers_unread x (Short call) = call.msg.0 ∷ numbers_of call.numbers
+numbers_unread x (Taped call) = call.msg.0 ∷ take call.count call.numbers
 
 -- the same, where a call is unread
 abbrev pub handled_by : Program → Option UnreadCall → Option (List ℕ)
 handled_by program unread = option_map (numbers_unread (program_of program)) unread
+
+-- an end of these parts
+abbrev pub held_as : TheEnd → TheSide → List TheReassembly → Option (List ℕ) → TheHeld
+held_as end side calls handled = record { end = end; side = side; calls = calls; handled = handled }
 
 -- nothing was taken of a call that isn't whole
 abbrev pub IsBetween : List TheReassembly → Type 0

@@ -1,7 +1,7 @@
 //! What an operation comes to, and its numbers.
 
 ghost use Rattle.std.specs.Prelude.{◌≡◌};
-ghost use Rattle.fl_c_operations.specs.Numbers.{fault_of, wanted_of, what_of, count_of, answer_of};
+ghost use Rattle.fl_c_operations.specs.Numbers.{fault_of, wanted_of, reached_of, what_of, count_of, answer_of};
 
 use fl_endpoint::EndFault;
 use fl_link::PutFault;
@@ -40,6 +40,8 @@ pub enum Outcome {
     Handled,
     /// The call's numbers, so many, are written.
     CallRead { count: u64 },
+    /// A fragment was taken, its call is whole, and the call's numbers, so many, are written.
+    CallTaken { count: u64 },
     /// The reply rule is set.
     RuleSet,
     /// So many messages.
@@ -76,6 +78,15 @@ pub enum UseFault {
     /// The end refuses (33, 40 to 43, 60 to 66, 99).
     #[error("{0}")]
     End(EndFault),
+    /// The call is accepted, and the end refuses to write it (33).
+    #[error("the call is accepted, and not written: {0}")]
+    Unwritten(EndFault),
+    /// A call was handled, and there are too few numbers for it (103): so many are wanted. It is to be read.
+    #[error("there are too few numbers for the call that was handled: {wanted} are wanted")]
+    HandledShort { wanted: u64 },
+    /// A call was handled, and memory ran out for its numbers (99). It is to be read.
+    #[error("out of memory for the numbers of the call that was handled")]
+    HandledMemory,
 }
 
 /// What C is answered. A fault of 100 or more is a caller's mistake: nothing was done then.
@@ -103,6 +114,21 @@ impl UseFault {
             UseFault::OnlyAcknowledges => 63,
             UseFault::Link(fault) => u32::from(fault.number()),
             UseFault::End(fault) => u32::from(fault.number()),
+            UseFault::Unwritten(fault) => u32::from(fault.number()),
+            UseFault::HandledShort { wanted: _ } => 103,
+            UseFault::HandledMemory => 99,
+        }
+    }
+
+    /// Which of the things that the operation may come to it came to before this.
+    #[inline(always)]
+    pub fn what(self) -> u32
+        ensures what { result ≡ reached_of self }
+    {
+        match self {
+            UseFault::Unwritten(_) => 2,
+            UseFault::HandledShort { wanted: _ } | UseFault::HandledMemory => 4,
+            _ => 0,
         }
     }
 
@@ -113,6 +139,7 @@ impl UseFault {
     {
         match self {
             UseFault::ShortRoom { wanted } => wanted,
+            UseFault::HandledShort { wanted } => wanted,
             _ => 0,
         }
     }
@@ -132,7 +159,7 @@ impl Outcome {
             Outcome::Wrote { left: _ } | Outcome::CallRead { count: _ } => 1,
             Outcome::Acknowledgement | Outcome::NoRoom => 2,
             Outcome::Held => 3,
-            Outcome::Handled => 4,
+            Outcome::Handled | Outcome::CallTaken { count: _ } => 4,
             Outcome::Sized { bytes, numbers: _ } => bytes,
             Outcome::Freed { align, size: _ } => align,
         }
@@ -150,6 +177,7 @@ impl Outcome {
             Outcome::Freed { align: _, size } => size,
             Outcome::Wrote { left } => left,
             Outcome::CallRead { count } => count,
+            Outcome::CallTaken { count } => count,
             _ => 0,
         }
     }
@@ -169,7 +197,7 @@ impl Answered {
             },
             Err(fault) => Answered {
                 fault: fault.number(),
-                what: 0,
+                what: fault.what(),
                 count: fault.wanted(),
             },
         }

@@ -73,7 +73,7 @@ fn without_memory(program: &Program, message: MsgNo, tape: &[u64]) -> Result<Opt
 }
 
 /// Writes a call's message and tape into the first places of a room.
-#[inline]
+#[inline(always)]
 pub(crate) fn write_numbers(room: &mut [u64], message: u16, tape: &[u64])
     requires room { length tape.now + 1 ≤ length room.old }
     ensures numbers { room.new ≡ (message ∷ tape.now) ++ drop (length tape.now + 1) room.old }

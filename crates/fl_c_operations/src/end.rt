@@ -1,22 +1,26 @@
 //! An end that owns its side and its place, and its operations.
 
-ghost use Rattle.std.specs.Prelude.{◌≡◌, None, IfOk};
+ghost use Rattle.std.specs.Prelude.{◌≡◌, List, ℕ, None, IfOk};
+ghost use Rattle.fl_endpoint.specs.Stored.{IsOwn};
+ghost use Rattle.fl_c_operations.specs.Transmissions.{IsFragFrom, first_written};
 ghost use Rattle.fl_c_operations.specs.Sides.{Tells};
 ghost use Rattle.fl_c_operations.specs.View.{IsNewEnd};
-ghost use Rattle.fl_c_operations.specs.Ends.{called_as, received_as, unread_in};
+ghost use Rattle.fl_c_operations.specs.Numbers.{answer_of};
+ghost use Rattle.fl_c_operations.specs.Ends.{called_as, written_as, unwritten_as, sent_as, sent_one, AnswersSend, AnswersTakeCall};
 ghost use Rattle.fl_c_operations.specs.Ends.{CallsBy, WritesBy, ReceivesNext, ReceivesBy, ReadsBy, RulesBy, IsBusyBy, UsesEnd};
 
-use crate::answer::{Outcome, UseFault};
+use crate::answer::{Answered, Outcome, UseFault};
 use crate::calls::read_numbers;
-use crate::glance::{Glance, receive_lent, take_glance};
+use crate::glance::{Glance, take_glance};
 use crate::looked::LookedSide;
 use crate::operation::Operation;
 use crate::side::tell;
-use crate::transmitting::TransmittingEnd;
-use crate::unread::{UnreadCall, put_unread};
-use fl_base::{Circuit, MsgNo};
+use crate::transmitting::{Sent, TransmittingEnd};
+use crate::unread::{UnreadCall, put_short, read_unread, stays};
+use crate::untaken::{receive_untaken, take_untaken};
+use fl_base::{Circuit, Frag, MsgNo};
 use fl_compile::Program;
-use fl_endpoint::{End, EndFault, ReceiveAnswer, WriteAnswer};
+use fl_endpoint::{End, EndFault, WriteAnswer};
 use fl_machine::Reassemblies;
 use fl_ring::SharedSide;
 use fl_wire::law_one_reading;
@@ -62,21 +66,46 @@ fn called(answer: Result<(), EndFault>) -> Result<Outcome, UseFault>
     }
 }
 
-// What a receive comes to, as it is told, and the call that stays to be read.
-#[inline]
-fn received(
-    answer: Result<ReceiveAnswer, EndFault>,
-) -> (Result<Outcome, UseFault>, Option<UnreadCall>)
-    ensures told { result.0 ≡ received_as answer }
-    ensures unread { result.1 ≡ unread_in answer }
+// A fault of a write behind a call that was accepted.
+fn unwritten(fault: UseFault) -> UseFault
+    ensures told { result ≡ unwritten_as fault }
+{
+    match fault {
+        UseFault::End(fault) => UseFault::Unwritten(fault),
+        _ => fault,
+    }
+}
+
+// What a write comes to behind a call that was accepted.
+fn sent(written: Result<Outcome, UseFault>) -> Result<Outcome, UseFault>
+    ensures told { result ≡ sent_as written }
+{
+    match written {
+        Ok(outcome) => Ok(outcome),
+        Err(fault) => Err(unwritten(fault)),
+    }
+}
+
+// The same of a call's only fragment.
+#[inline(always)]
+fn sent_first(sent: Sent) -> Result<Outcome, UseFault>
+    ensures told { result ≡ sent_as (written_as (first_written sent)) }
+{
+    match sent {
+        Sent::PutNow => Ok(Outcome::Wrote { left: 0 }),
+        Sent::NoRoom => Ok(Outcome::NoRoom),
+        Sent::RingSpent => Err(UseFault::Unwritten(EndFault::Spent)),
+    }
+}
+
+// What C is answered of a call of one fragment that is made and put: each way out by itself.
+#[inline(always)]
+fn sent_one(answer: Result<Sent, EndFault>) -> Answered
+    ensures told { result ≡ answer_of (sent_one answer) }
 {
     match answer {
-        Ok(ReceiveAnswer::Handle(call)) => (Ok(Outcome::Handled), Some(UnreadCall::Whole(call))),
-        Ok(ReceiveAnswer::Part) => (Ok(Outcome::PartTaken), None),
-        Ok(ReceiveAnswer::Quiet) => (Ok(Outcome::Acknowledgement), None),
-        Ok(ReceiveAnswer::Empty) => (Ok(Outcome::Nothing), None),
-        Ok(ReceiveAnswer::HeldBack) => (Ok(Outcome::Held), None),
-        Err(fault) => (Err(UseFault::End(fault)), None),
+        Err(fault) => Answered::of(Err(UseFault::End(fault))),
+        Ok(sent) => Answered::of(sent_first(sent)),
     }
 }
 
@@ -114,6 +143,17 @@ impl HeldEnd {
         ensures calls { CallsBy self.old numbers.now result self.new }
     {
         match self.end.short_frag(numbers) {
+            Some(frag) => called(self.end.call_frag(frag)),
+            None => self.call_by_stub(numbers),
+        }
+    }
+
+    // Makes the call of these numbers, of which its message's codec makes no fragment.
+    #[inline(never)]
+    fn call_by_stub(&mut self, numbers: &[u64]) -> Result<Outcome, UseFault>
+        ensures calls { CallsBy self.old numbers.now result self.new }
+    {
+        match self.end.taped_frag(numbers) {
             Some(frag) => called(self.end.call_frag(frag)),
             None => self.call_by_values(numbers),
         }
@@ -154,6 +194,41 @@ impl HeldEnd {
         }
     }
 
+    /// Makes the call of these numbers, and puts its first fragment: what C is answered.
+    ///
+    /// # Errors
+    /// Those of [`HeldEnd::call`]; where the call is accepted, that its first fragment isn't written, for a fault of
+    /// [`HeldEnd::write`].
+    #[inline(always)]
+    pub fn send(&mut self, numbers: &[u64]) -> Answered
+        ensures sends { AnswersSend self.old numbers.now result self.new }
+    {
+        match self.end.short_frag(numbers) {
+            Some(frag) => self.send_frag(frag),
+            None => self.send_by_stub(numbers),
+        }
+    }
+
+    // Makes a call of one fragment, which this is, and puts it.
+    #[inline(always)]
+    fn send_frag(&mut self, frag: Frag) -> Answered
+        requires own { IsOwn frag }
+        ensures sends { (numbers : List ℕ) → IsFragFrom self.old.end numbers frag → AnswersSend self.old numbers result self.new }
+    {
+        sent_one(self.end.send_frag(frag, &mut self.side))
+    }
+
+    // Makes the call of these numbers, of which its message's codec makes no fragment, and puts its first fragment.
+    #[inline(never)]
+    fn send_by_stub(&mut self, numbers: &[u64]) -> Answered
+        ensures sends { AnswersSend self.old numbers.now result self.new }
+    {
+        match self.call_by_stub(numbers) {
+            Err(fault) => Answered::of(Err(fault)),
+            Ok(_) => Answered::of(sent(self.write())),
+        }
+    }
+
     /// Takes what stands first. A call that becomes whole stays until it is read.
     ///
     /// # Errors
@@ -174,6 +249,7 @@ impl HeldEnd {
         requires read { self.old.handled ≡ None }
         ensures receives { ReceivesNext self.old result self.new }
     {
+        self.side.forget();
         match take_glance(&self.end, &mut self.side, self.between) {
             Glance::Nothing => Ok(Outcome::Nothing),
             Glance::Acknowledgement => Ok(Outcome::Acknowledgement),
@@ -182,13 +258,61 @@ impl HeldEnd {
                 self.handled = Some(UnreadCall::Short(call));
                 Ok(Outcome::Handled)
             }
-            Glance::Untaken => {
-                let answer = receive_lent(&mut self.end, &mut self.side, &mut self.calls);
-                let (outcome, handled) = received(answer);
-                self.between = handled.is_some();
-                self.handled = handled;
-                outcome
+            Glance::Untaken => receive_untaken(
+                &mut self.end,
+                &mut self.side,
+                &mut self.calls,
+                &mut self.handled,
+                &mut self.between,
+            ),
+        }
+    }
+
+    /// Takes what stands first, and reads the call that it makes whole: its message's number and its tape stand first in the room
+    /// then. What C is answered.
+    ///
+    /// # Errors
+    /// Those of [`HeldEnd::receive`]; where a call was handled, that it stays to be read, for a fault of [`HeldEnd::read`].
+    #[inline(always)]
+    pub fn take_call(&mut self, room: &mut [u64]) -> Answered
+        ensures takes { AnswersTakeCall self.old room.old result self.new room.new }
+    {
+        match &self.handled {
+            Some(_) => Answered::of(Err(UseFault::Unread)),
+            None => self.take_next(room),
+        }
+    }
+
+    // Takes what stands first, and reads the call that it makes whole, where no call is unread. Each way out tells what it came to by
+    // itself.
+    #[inline(always)]
+    fn take_next(&mut self, room: &mut [u64]) -> Answered
+        requires read { self.old.handled ≡ None }
+        ensures takes { AnswersTakeCall self.old room.old result self.new room.new }
+    {
+        self.side.forget();
+        match take_glance(&self.end, &mut self.side, self.between) {
+            Glance::Nothing => Answered::of(Ok(Outcome::Nothing)),
+            Glance::Acknowledgement => Answered::of(Ok(Outcome::Acknowledgement)),
+            Glance::Short(call) => {
+                law_one_reading();
+                match put_short(&call, room) {
+                    Ok(count) => Answered::of(Ok(Outcome::CallTaken { count })),
+                    Err(fault) => {
+                        self.handled = Some(UnreadCall::Short(call));
+                        Answered::of(Err(stays(fault)))
+                    }
+                }
             }
+            Glance::Untaken => take_untaken(
+                &mut self.end,
+                &mut self.side,
+                &mut self.calls,
+                &mut self.handled,
+                &mut self.between,
+                &mut self.spare,
+                room,
+            ),
         }
     }
 
@@ -201,16 +325,7 @@ impl HeldEnd {
     pub fn read(&mut self, room: &mut [u64]) -> Result<Outcome, UseFault>
         ensures reads { ReadsBy self.old room.old result self.new room.new }
     {
-        let Some(call) = &self.handled else {
-            return Ok(Outcome::Nothing);
-        };
-        match put_unread(self.end.program(), call, &mut self.spare, room) {
-            Err(fault) => Err(fault),
-            Ok(count) => {
-                self.handled = None;
-                Ok(Outcome::CallRead { count })
-            }
-        }
+        read_unread(self.end.program(), &mut self.handled, &mut self.spare, room)
     }
 
     /// Sets a rule, by the numbers of the message and of the reply to it.

@@ -1,16 +1,15 @@
 //! What an end takes at its first look, where no call is under way: so a call of one fragment needs no values, and no memory.
 
-ghost use Rattle.fl_ring.specs.SharedSides.{TheSide, SharedTakes};
-ghost use Rattle.fl_endpoint.specs.Lent.{IsPlaceOf, receipt, ReceivesAt};
-ghost use Rattle.fl_c_operations.specs.Seen.{IsAfterLook};
+ghost use Rattle.std.specs.Prelude.{◌≡◌, None};
+ghost use Rattle.fl_link.specs.Looks.{saw_ack, found_ack};
+ghost use Rattle.fl_ring.specs.SharedSeats.{front_seen};
+ghost use Rattle.fl_ring.specs.SharedSides.{SharedTakes};
 ghost use Rattle.fl_c_operations.specs.Glances.{Glances};
 
 use crate::looked::LookedSide;
 use crate::short::ShortCall;
 use crate::transmitting::TransmittingEnd;
-use fl_endpoint::{EndFault, ReceiveAnswer};
 use fl_link::Sight;
-use fl_machine::Reassemblies;
 
 /// What an end took at its first look.
 #[derive(Drop)]
@@ -25,12 +24,24 @@ pub(crate) enum Glance {
     Untaken,
 }
 
-/// Looks at what stands first where no call is under way, and takes what only acknowledges and what is a short call.
+// Takes what only acknowledges. Out of line, since it seldom stands there.
+#[cold]
+#[inline(never)]
+fn take_acknowledgement(side: &mut LookedSide)
+    requires unseen { side.old.seen ≡ None }
+    requires acknowledgement { front_seen side.old.side.peeked ≡ saw_ack }
+    ensures takes { SharedTakes side.old.side found_ack side.new.side }
+{
+    let _ = side.take_looked();
+}
+
+/// Looks at what stands first where no call is under way, by a side that has seen nothing, and takes what only acknowledges and what is
+/// a short call.
 #[inline(always)]
 pub(crate) fn take_glance(end: &TransmittingEnd, side: &mut LookedSide, between: bool) -> Glance
+    requires unseen { side.old.seen ≡ None }
     ensures glances { Glances end.now between side.old.side result side.new.seen side.new.side }
 {
-    side.forget();
     if !between {
         return Glance::Untaken;
     }
@@ -40,7 +51,7 @@ pub(crate) fn take_glance(end: &TransmittingEnd, side: &mut LookedSide, between:
     match side.look() {
         Sight::Empty => Glance::Nothing,
         Sight::Acknowledgement => {
-            let _ = side.take_looked();
+            take_acknowledgement(side);
             Glance::Acknowledgement
         }
         Sight::Data(frag) => {
@@ -52,19 +63,4 @@ pub(crate) fn take_glance(end: &TransmittingEnd, side: &mut LookedSide, between:
             Glance::Short(call)
         }
     }
-}
-
-/// Takes what stands first, by a side that may have seen it.
-#[inline(never)]
-pub(crate) fn receive_lent(
-    end: &mut TransmittingEnd,
-    side: &mut LookedSide,
-    calls: &mut Reassemblies,
-) -> Result<ReceiveAnswer, EndFault>
-    requires place { IsPlaceOf end.old calls.old 0 }
-    ensures receives { (p : TheSide) → IsAfterLook end.old p side.old.seen side.old.side
-        → ReceivesAt SharedTakes (receipt end.old p result end.new side.new.side) calls.old 0 calls.new }
-    ensures place { IsPlaceOf end.new calls.new 0 }
-{
-    end.receive(side, calls, 0)
 }

@@ -24,6 +24,11 @@ use std::mem::{align_of, size_of};
 // The number that frees.
 const FREE: u32 = 5;
 
+// The numbers of two operations in one.
+const SEND: u32 = 16;
+
+const TAKE_CALL: u32 = 17;
+
 // The numbers of runs.
 const SEND_RUN: u32 = 1;
 
@@ -81,6 +86,43 @@ pub fn new_run(program: &HeldProgram, kind: u32) -> Result<Handle, UseFault>
     }
 }
 
+// Makes a call at an end, and puts its first fragment.
+#[inline(always)]
+fn send(handle: &mut Handle, numbers: &[u64]) -> Answered
+    ensures uses { Uses handle.old 16 numbers.now result handle.new numbers.now }
+{
+    match handle {
+        Handle::End(end) => end.send(numbers),
+        _ => Answered::of(Err(UseFault::NoSuchOperation)),
+    }
+}
+
+// Takes a fragment at an end, and reads the call that it makes whole.
+#[inline(always)]
+fn take_call(handle: &mut Handle, room: &mut [u64]) -> Answered
+    ensures uses { Uses handle.old 17 room.old result handle.new room.new }
+{
+    match handle {
+        Handle::End(end) => end.take_call(room),
+        _ => Answered::of(Err(UseFault::NoSuchOperation)),
+    }
+}
+
+// As `send` and `take_call`, out of line: with them in line `use_handle` would be too large to be in line itself.
+#[inline(never)]
+fn send_apart(handle: &mut Handle, numbers: &[u64]) -> Answered
+    ensures uses { Uses handle.old 16 numbers.now result handle.new numbers.now }
+{
+    send(handle, numbers)
+}
+
+#[inline(never)]
+fn take_call_apart(handle: &mut Handle, room: &mut [u64]) -> Answered
+    ensures uses { Uses handle.old 17 room.old result handle.new room.new }
+{
+    take_call(handle, room)
+}
+
 /// Does the operation of this number at a handle, on these numbers, and answers by numbers. 5 frees
 /// what the handle leads to, but for the handle's own block, and answers its alignment and size. In line, so that
 /// an export of one operation alone has nothing of the others.
@@ -88,7 +130,44 @@ pub fn new_run(program: &HeldProgram, kind: u32) -> Result<Handle, UseFault>
 pub fn use_handle(handle: &mut Handle, what: u32, numbers: &mut [u64]) -> Answered
     ensures uses { Uses handle.old what numbers.old result handle.new numbers.new }
 {
+    if what == SEND {
+        return send_apart(handle, numbers);
+    }
+    if what == TAKE_CALL {
+        return take_call_apart(handle, numbers);
+    }
     Answered::of(attempt(handle, what, numbers))
+}
+
+// The same, out of line.
+#[cold]
+#[inline(never)]
+fn use_apart(handle: &mut Handle, what: u32, numbers: &mut [u64]) -> Answered
+    ensures uses { Uses handle.old what numbers.old result handle.new numbers.new }
+{
+    use_handle(handle, what, numbers)
+}
+
+/// The same, for an export that makes calls and puts their first fragments (16): that is in line.
+#[inline(always)]
+pub fn use_sending(handle: &mut Handle, what: u32, numbers: &mut [u64]) -> Answered
+    ensures uses { Uses handle.old what numbers.old result handle.new numbers.new }
+{
+    if what == SEND {
+        return send(handle, numbers);
+    }
+    use_apart(handle, what, numbers)
+}
+
+/// The same, for an export that takes fragments and reads the calls that they make whole (17): that is in line.
+#[inline(always)]
+pub fn use_taking(handle: &mut Handle, what: u32, numbers: &mut [u64]) -> Answered
+    ensures uses { Uses handle.old what numbers.old result handle.new numbers.new }
+{
+    if what == TAKE_CALL {
+        return take_call(handle, numbers);
+    }
+    use_apart(handle, what, numbers)
 }
 
 #[inline(always)]

@@ -12,8 +12,9 @@
 //! - `transmitting.rt`: an end with a call of one fragment in transmission (`specs/Transmissions.antt`)
 //! - `short.rt`: calls of messages of few numbers, without values (`specs/Shorts.antt`), by `codecs.rt`: the codecs of a program's
 //!   messages (`specs/Codecs.antt`)
+//! - `by_stub.rt`: other calls of one fragment, without values, by stub code
 //! - `glance.rt`: what an end takes at its first look (`specs/Glances.antt`); `looked.rt`: a side that has seen what stands first
-//!   (`specs/Seen.antt`); `unread.rt`: a call that was handled, until it is read
+//!   (`specs/Seen.antt`); `untaken.rt`: a receive of what wasn't taken then; `unread.rt`: a call that was handled, until it is read
 //! - `calls.rt`: calls as numbers (`specs/Calls.antt`); `tapes.rt`: whether a tape is a call's, where memory ran out
 //! - `program.rt`, `sender.rt`, `receiver.rt`: a program alone, and runs of its stubs alone (`specs/Runs.antt`)
 //! - `making.rt`: the ends, or the program, of a text or an image (`specs/Making.antt`)
@@ -21,6 +22,7 @@
 #![tactic(auto)]
 
 mod answer;
+mod by_stub;
 mod calls;
 mod codecs;
 mod end;
@@ -39,11 +41,12 @@ mod side;
 mod tapes;
 mod transmitting;
 mod unread;
+mod untaken;
 
 pub use answer::{Answered, Outcome, UseFault};
 pub use end::{HeldEnd, use_end};
 pub use handing::{boxed, hand_one, hand_out};
-pub use handle::{Handle, new_run, ring_handles, use_handle};
+pub use handle::{Handle, new_run, ring_handles, use_handle, use_sending, use_taking};
 pub use making::{MakeFault, image_ends, image_program, text_ends, text_program};
 pub use operation::Operation;
 pub use program::HeldProgram;

@@ -2,10 +2,11 @@
 //! and no memory. Each function finds something exactly where there is such a call; what the numbers or the fragment are else the
 //! long way tells.
 
-ghost use Rattle.std.specs.Prelude.{◌≡◌, IfSome, IfNone};
+ghost use Rattle.std.specs.Prelude.{◌≡◌, true, slice_get, IfSome, IfNone};
 ghost use Rattle.fl_base.specs.Control.{bare};
 ghost use Rattle.fl_compile.specs.Programs.{TheProgram};
 ghost use Rattle.fl_codec.specs.Codecs.{numbers_of};
+ghost use Rattle.fl_codec.specs.NumberPlaces.{has_few_numbers};
 ghost use Rattle.fl_endpoint.specs.Stored.{IsOwn};
 ghost use Rattle.fl_c_operations.specs.Codecs.{AreCodecs};
 ghost use Rattle.fl_c_operations.specs.Shorts.{IsFragOfTape, IsFragOfNumbers, AreNoShorts, IsNoShorts};
@@ -64,6 +65,8 @@ impl ShortCall {
 pub(crate) fn short_call(codecs: &[Option<Codec>], frag: &Frag) -> Option<ShortCall>
     ensures short { (x : TheProgram) → AreCodecs x codecs.now
         → IfSome result (λ call. IsFragOfTape x 0 call.msg.0 (numbers_of call.numbers) (bare frag.now)) }
+    ensures few { (x : TheProgram) → AreCodecs x codecs.now
+        → IfSome result (λ call. has_few_numbers (slice_get x.interface.messages call.msg.0) ≡ true) }
     ensures none { (x : TheProgram) → AreCodecs x codecs.now → IfNone result (IsNoShorts x (bare frag.now)) }
 {
     let msg = frag.msg();

@@ -1,6 +1,6 @@
 //! An end with a call of one fragment in transmission, which needs no values, and no memory.
 
-ghost use Rattle.std.specs.Prelude.{◌≡◌, ◌≢◌, ◌∷◌, [], true, length, Err, IsSome, IfOk, IfSome, IfNone};
+ghost use Rattle.std.specs.Prelude.{◌≡◌, ◌≢◌, ◌∷◌, [], true, take, length, Err, IsSome, IfOk, IfSome, IfNone};
 ghost use Rattle.fl_base.specs.declared.fragment.Frag.{Frag};
 ghost use Rattle.fl_base.specs.Control.{bare};
 ghost use Rattle.fl_ring.specs.SharedSides.{SharedPuts};
@@ -14,9 +14,11 @@ ghost use Rattle.fl_endpoint.specs.Lent.{IsPlaceOf, receipt, ReceivesAt};
 ghost use Rattle.fl_endpoint.specs.Stored.{IsOwn};
 ghost use Rattle.fl_c_operations.specs.Codecs.{AreCodecs};
 ghost use Rattle.fl_c_operations.specs.Shorts.{AreNoShorts};
-ghost use Rattle.fl_c_operations.specs.Transmissions.{all_of, transmitting_frag, Transmits, RefusesFitting, holds_all, IsFragFrom, IsShortAt, IsNoShortAt};
+ghost use Rattle.fl_c_operations.specs.Transmissions.{all_of, transmitting_frag, Transmits, RefusesFitting, holds_all, IsFragFrom, IsShortAt, IsNoShortAt, SendsOne};
 
+use crate::by_stub::{TapedCall, taped_call, taped_frag};
 use crate::codecs::codecs_of;
+use crate::looked::LookedSide;
 use crate::short::{ShortCall, short_call, short_frag};
 use fl_base::{Circuit, Frag, MsgNo};
 use fl_codec::Codec;
@@ -51,6 +53,17 @@ impl Model for TransmittingEnd {
     ghost view = { λ h. transmitting h.in_transmission h.end };
 
     ghost invariant = { λ h. IsTransmitting h.in_transmission h.end h.codecs.items };
+}
+
+/// What the write of a call's only fragment came to.
+#[derive(Clone, Copy)]
+pub(crate) enum Sent {
+    /// It was put.
+    PutNow,
+    /// There was no room: it is in transmission.
+    NoRoom,
+    /// The ring has carried all that it ever will: it is in transmission.
+    RingSpent,
 }
 
 // What a fitting call is refused for, but for the want of memory.
@@ -219,6 +232,17 @@ impl TransmittingEnd {
         Some(frag)
     }
 
+    // The only fragment of the call of these numbers, where its message has no codec. It may find none.
+    pub(crate) fn taped_frag(&self, numbers: &[u64]) -> Option<Frag>
+        ensures short { IfSome result (λ f. IsFragFrom self.now numbers.now f) }
+        ensures own { IfSome result IsOwn }
+    {
+        let Some(frag) = taped_frag(self.end.program(), circuit_of(&self.end), numbers) else {
+            return None;
+        };
+        Some(frag)
+    }
+
     // Makes a call of one fragment, which this is. It is never out of memory.
     #[inline(always)]
     pub(crate) fn call_frag(&mut self, frag: Frag) -> Result<(), EndFault>
@@ -236,6 +260,37 @@ impl TransmittingEnd {
                     self.end.law_sound();
                     self.in_transmission = Some(frag);
                     Ok(())
+                }
+            },
+        }
+    }
+
+    // Makes a call of one fragment, which this is, and puts that: what the write comes to, or why the call is refused. It is never
+    // out of memory.
+    #[inline(always)]
+    pub(crate) fn send_frag(&mut self, frag: Frag, side: &mut LookedSide) -> Result<Sent, EndFault>
+        requires own { IsOwn frag }
+        ensures sends { (c : TheCall) → fits_of (interface_in self.old) c ≡ true → frags_from self.old c ≡ frag ∷ []
+            → SendsOne self.old side.old.side c result self.new side.new.side }
+        ensures program { self.new.program ≡ self.old.program }
+    {
+        match &self.in_transmission {
+            Some(_) => Err(refused_transmitting(&self.end)),
+            None => match refused(&self.end) {
+                Some(fault) => Err(fault),
+                None => {
+                    self.end.law_sound();
+                    match side.put(&frag) {
+                        Ok(()) => Ok(Sent::PutNow),
+                        Err(PutFault::Full) => {
+                            self.in_transmission = Some(frag);
+                            Ok(Sent::NoRoom)
+                        }
+                        Err(PutFault::Spent) => {
+                            self.in_transmission = Some(frag);
+                            Ok(Sent::RingSpent)
+                        }
+                    }
                 }
             },
         }
@@ -326,6 +381,22 @@ impl TransmittingEnd {
             None => {
                 self.end.law_sound();
                 Some(call)
+            }
+        }
+    }
+
+    // The same of a message that has no codec. It may find none.
+    pub(crate) fn taped_call(&self, frag: &Frag) -> Option<TapedCall>
+        ensures short { IfSome result (λ call. IsShortAt self.now call.msg.0 (take call.count call.numbers) (bare frag.now)) }
+    {
+        let Some(found) = taped_call(self.end.program(), frag) else {
+            return None;
+        };
+        match self.end.rule_for(found.msg) {
+            Some(_) => None,
+            None => {
+                self.end.law_sound();
+                Some(found)
             }
         }
     }

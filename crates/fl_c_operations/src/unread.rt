@@ -1,14 +1,17 @@
 //! A call that was handled, until it is read.
 
-ghost use Rattle.std.specs.Prelude.{◌≡◌, ◌≢◌, ◌∷◌, Err};
+ghost use Rattle.std.specs.Prelude.{◌≡◌, List, ◌∷◌};
+ghost use Rattle.fl_ring.specs.SharedSides.{TheSide};
+ghost use Rattle.fl_machine.specs.Reassembling.{TheReassembly};
+ghost use Rattle.fl_endpoint.specs.View.{TheEnd};
 ghost use Rattle.fl_compile.specs.Programs.{program_of};
 ghost use Rattle.fl_codec.specs.Codecs.{numbers_of};
-ghost use Rattle.fl_endpoint.specs.declared.fault.EndFault.TheVariants.{Memory};
-ghost use Rattle.fl_c_operations.specs.declared.answer.UseFault.TheVariants.{End};
 ghost use Rattle.fl_c_operations.specs.Calls.{PutsNumbers};
-ghost use Rattle.fl_c_operations.specs.View.{numbers_unread};
+ghost use Rattle.fl_c_operations.specs.View.{numbers_unread, handled_by, held_as};
+ghost use Rattle.fl_c_operations.specs.Ends.{stays_as, ReadsBy};
 
-use crate::answer::UseFault;
+use crate::answer::{Outcome, UseFault};
+use crate::by_stub::TapedCall;
 use crate::calls::{put_numbers, write_numbers};
 use crate::short::ShortCall;
 use fl_compile::Program;
@@ -21,21 +24,29 @@ pub(crate) enum UnreadCall {
     Whole(Call),
     /// One of few numbers, by its tape.
     Short(ShortCall),
+    /// Another of one fragment, by its tape.
+    Taped(TapedCall),
 }
 
-// Puts a short call's message and tape into the first places of a room, and tells how many numbers these are.
+// Puts a call's message and tape into the first places of a room, and tells how many numbers these are.
 #[inline(always)]
-fn put_short(call: &ShortCall, room: &mut [u64]) -> Result<u64, UseFault>
-    ensures puts { PutsNumbers (call.now.msg.0 ∷ numbers_of call.now.numbers) room.old result room.new }
-    ensures not_memory { result ≢ Err (End Memory) }
+fn put_tape(message: u16, tape: &[u64], room: &mut [u64]) -> Result<u64, UseFault>
+    ensures puts { PutsNumbers (message ∷ tape.now) room.old result room.new }
 {
-    let tape = call.tape();
     let count = tape.len() as u64 + 1;
     if (room.len() as u64) < count {
         return Err(UseFault::ShortRoom { wanted: count });
     }
-    write_numbers(room, call.msg.0, tape);
+    write_numbers(room, message, tape);
     Ok(count)
+}
+
+/// The same of a short call.
+#[inline(always)]
+pub(crate) fn put_short(call: &ShortCall, room: &mut [u64]) -> Result<u64, UseFault>
+    ensures puts { PutsNumbers (call.now.msg.0 ∷ numbers_of call.now.numbers) room.old result room.new }
+{
+    put_tape(call.msg.0, call.tape(), room)
 }
 
 /// Puts a call's message and tape into the first places of a room, and tells how many numbers these are.
@@ -51,5 +62,41 @@ pub(crate) fn put_unread(
     match call {
         UnreadCall::Whole(call) => put_numbers(program, call, spare, room),
         UnreadCall::Short(call) => put_short(call, room),
+        UnreadCall::Taped(call) => put_tape(call.msg.0, call.tape(), room),
+    }
+}
+
+/// What a read is refused for behind a call that was handled, which stays to be read.
+#[inline(always)]
+pub(crate) fn stays(fault: UseFault) -> UseFault
+    ensures told { result ≡ stays_as fault }
+{
+    match fault {
+        UseFault::ShortRoom { wanted } => UseFault::HandledShort { wanted },
+        _ => UseFault::HandledMemory,
+    }
+}
+
+/// Reads a call that was handled, which is let go then.
+#[inline(always)]
+pub(crate) fn read_unread(
+    program: &Program,
+    handled: &mut Option<UnreadCall>,
+    spare: &mut Vec<u64>,
+    room: &mut [u64],
+) -> Result<Outcome, UseFault>
+    ensures reads { (end : TheEnd) (side : TheSide) (calls : List TheReassembly)
+        → ReadsBy (held_as end side calls (handled_by program.now handled.old)) room.old result
+        (held_as end side calls (handled_by program.now handled.new)) room.new }
+{
+    let Some(call) = &*handled else {
+        return Ok(Outcome::Nothing);
+    };
+    match put_unread(program, call, spare, room) {
+        Err(fault) => Err(fault),
+        Ok(count) => {
+            *handled = None;
+            Ok(Outcome::CallRead { count })
+        }
     }
 }

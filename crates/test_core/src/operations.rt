@@ -18,6 +18,8 @@ const TEXT: &[u8] = b"interface desk \"a desk\" {
     rpc echo(in string line[200], out string again[200]);
     message pair(uint8 a, int16 b);
     message long(row all);
+    typedef struct { uint8 x; uint32 y; } spot;
+    message at(spot place);
 };";
 
 // The words of fragments: of `long`, with and without the epoch of a ring's first round, and of a call of `echo`.
@@ -30,6 +32,9 @@ const LINE: &[u64] = &[2, 25_185, 0, 0, 0, 0, 0, 2];
 const LONG: &[u64] = &[3, 1, 2, 3, 4, 5, 6, 7, 8];
 
 const ECHO: &[u64] = &[0, 2, 97, 98];
+
+// A call of a struct of two numbers, with padding between them.
+const SPOT: &[u64] = &[4, 1, 2];
 
 // A call of scalars alone; its only fragment; and the same with a byte between its arguments that isn't 0.
 const PAIR: &[u64] = &[2, 7, 65_535];
@@ -70,6 +75,8 @@ const SIDES: &[Row] = &[
     (1, 3, &[], (103, 0, 0), &[]),
     (1, 77, &[2; 8], (101, 0, 0), &[2; 8]),
     (1, 6, &[2; 8], (101, 0, 0), &[2; 8]),
+    (1, 16, &[2; 8], (101, 0, 0), &[2; 8]),
+    (1, 17, &[2; 8], (101, 0, 0), &[2; 8]),
     (
         1,
         1,
@@ -104,7 +111,7 @@ const CALLS: &[Row] = &[
     (1, 7, &[], (0, 1, 1), &[]),
     (2, 8, &[], (0, 1, 0), &[]),
     (1, 6, &[], (103, 0, 0), &[]),
-    (1, 6, &[4], (41, 0, 0), &[4]),
+    (1, 6, &[5], (41, 0, 0), &[5]),
     (1, 6, &[65_538, 1, 2], (41, 0, 0), &[65_538, 1, 2]),
     (1, 6, &[2, 256, 0], (42, 0, 0), &[2, 256, 0]),
     (1, 6, &[2, 1], (42, 0, 0), &[2, 1]),
@@ -160,6 +167,43 @@ const CALLS: &[Row] = &[
     (1, 7, &[], (0, 1, 0), &[]),
     (2, 8, &[], (0, 4, 0), &[]),
     (2, 9, &[7; 3], (0, 1, 3), PAIR),
+];
+
+// The same by two operations in one: calls of few numbers, with a string, with a struct, and of two fragments; too little room for a
+// call, which stays to be read; mistakes; and a ring with no room, until what was taken is told.
+const PAIRS: &[Row] = &[
+    (2, 17, &[7; 5], (0, 0, 0), &[7; 5]),
+    (1, 16, PAIR, (0, 1, 0), PAIR),
+    (1, 11, &[], (0, 0, 0), &[]),
+    (2, 17, &[7; 4], (0, 4, 3), &[2, 7, 65_535, 7]),
+    (2, 9, &[7; 4], (0, 0, 0), &[7; 4]),
+    (1, 16, PAIR, (0, 1, 0), PAIR),
+    (2, 17, &[7; 2], (103, 4, 3), &[7; 2]),
+    (2, 17, &[7; 3], (105, 0, 0), &[7; 3]),
+    (2, 9, &[7; 3], (0, 1, 3), PAIR),
+    (1, 16, ECHO, (0, 1, 0), ECHO),
+    (2, 17, &[7; 3], (103, 4, 4), &[7; 3]),
+    (2, 9, &[7; 5], (0, 1, 4), &[0, 2, 97, 98, 7]),
+    (1, 16, SPOT, (0, 1, 0), SPOT),
+    (2, 17, &[7; 4], (0, 4, 3), &[4, 1, 2, 7]),
+    (1, 16, LONG, (0, 1, 1), LONG),
+    (1, 16, PAIR, (40, 0, 0), PAIR),
+    (2, 17, &[7; 9], (0, 1, 0), &[7; 9]),
+    (1, 7, &[], (0, 1, 0), &[]),
+    (2, 17, &[7; 9], (0, 4, 9), LONG),
+    (1, 16, &[], (103, 0, 0), &[]),
+    (1, 16, &[5], (41, 0, 0), &[5]),
+    (1, 16, &[2, 256, 0], (42, 0, 0), &[2, 256, 0]),
+    (1, 16, PAIR, (0, 1, 0), PAIR),
+    (1, 16, PAIR, (0, 2, 0), PAIR),
+    (1, 11, &[], (0, 1, 0), &[]),
+    (1, 16, PAIR, (40, 0, 0), PAIR),
+    (2, 4, &[], (0, 1, 0), &[]),
+    (1, 17, &[7; 3], (0, 2, 0), &[7; 3]),
+    (1, 7, &[], (0, 1, 0), &[]),
+    (2, 17, &[7; 3], (0, 4, 3), PAIR),
+    (2, 17, &[7; 3], (0, 4, 3), PAIR),
+    (2, 17, &[7; 3], (0, 0, 0), &[7; 3]),
 ];
 
 // At a side of a ring, and at the end over the other side: calls of one fragment before and behind one of two, and behind them a wrong
@@ -221,11 +265,12 @@ const RUNS: &[Row] = &[
 
 // The handle is a program.
 const SIZES: &[Row] = &[
-    (1, 12, &[], (0, 0, 4), &[]),
+    (1, 12, &[], (0, 0, 5), &[]),
     (1, 13, &[0], (0, 208, 201), &[0]),
     (1, 13, &[2], (0, 4, 2), &[2]),
     (1, 13, &[3], (0, 64, 8), &[3]),
-    (1, 13, &[4], (41, 0, 0), &[4]),
+    (1, 13, &[4], (0, 8, 2), &[4]),
+    (1, 13, &[5], (41, 0, 0), &[5]),
     (1, 13, &[65_536], (41, 0, 0), &[65_536]),
     (1, 13, &[], (103, 0, 0), &[]),
     (1, 2, &[0; 8], (101, 0, 0), &[0; 8]),
@@ -325,16 +370,18 @@ fn fragments_go_over(rt: HostRuntime) -> Result<(), Fail> {
 }
 
 // Two ends.
-fn ends_answer(alloc: Global) -> Result<bool, AllocError> {
+fn ends_answer(alloc: Global, rows: &[Row]) -> Result<bool, AllocError> {
     match text_ends(alloc, TEXT, PlanNo::One, 8) {
-        Ok((one, two)) => all_come_at(Handle::End(one), Handle::End(two), CALLS),
+        Ok((one, two)) => all_come_at(Handle::End(one), Handle::End(two), rows),
         Err(_) => Err(AllocError),
     }
 }
 
 #[test]
 fn calls_go_over(rt: HostRuntime) -> Result<(), Fail> {
-    assert!(rt; ends_answer(rt.alloc())?);
+    for rows in [CALLS, PAIRS] {
+        assert!(rt; ends_answer(rt.alloc(), rows)?);
+    }
     Ok(())
 }
 

@@ -1,7 +1,7 @@
 //! Calls of an interface between two threads: squares, which the server answers, and echoes, which a reply rule
 //! answers. A side that finds nothing parks; who moved something unparks the other.
 
-use flounder::{ends_of_text, End, Fault, Plan, Received, Written};
+use flounder::{ends_of_text, End, Fault, Plan, Taken, Written};
 use std::sync::mpsc;
 use std::thread::{self, Thread};
 
@@ -24,33 +24,38 @@ struct Party {
 
 impl Party {
     fn send(&mut self, call: &mut [u64]) -> Result<(), Fault> {
-        self.end.call(call)?;
+        let mut wrote = self.end.send(call)?;
         loop {
-            match self.end.write()? {
+            match wrote {
                 Written::Nothing => return Ok(()),
                 Written::Fragment { left: _ } => self.other.unpark(),
                 Written::Full => thread::park(),
             }
+            wrote = self.end.write()?;
         }
     }
 
     fn next<'a>(&mut self, room: &'a mut [u64]) -> Result<&'a [u64], Fault> {
-        loop {
+        let count = loop {
             let wrote = self.end.write()?;
-            let came = self.end.receive()?;
+            let taken = self.end.take_call(room)?;
             let put = matches!(wrote, Written::Fragment { left: _ });
-            if !put && came == Received::Empty {
+            if !put && taken == Taken::Empty {
                 thread::park();
                 continue;
             }
+            let count = match taken {
+                Taken::Call(call) => Some(call.len()),
+                _ => None,
+            };
             // a put that found no room is told now
             let _ = self.end.tell();
             self.other.unpark();
-            if came == Received::Call {
-                break;
+            if let Some(count) = count {
+                break count;
             }
-        }
-        Ok(self.end.read(room)?.unwrap_or(&[]))
+        };
+        Ok(&room[..count])
     }
 }
 

@@ -3,7 +3,7 @@
 use crate::fault::{Fault, TextFault};
 use crate::handle::{
     flounder_call, flounder_make_image_ends, flounder_make_text_ends, flounder_read,
-    flounder_receive, flounder_write, Handle,
+    flounder_receive, flounder_send, flounder_take_call, flounder_write, Handle,
 };
 use core::ptr;
 
@@ -44,6 +44,21 @@ pub enum Written {
 pub enum Received {
     /// A call is whole: read it before the next receive.
     Call,
+    /// A fragment of a call that isn't whole yet.
+    Part,
+    /// A fragment that only acknowledges.
+    Acknowledgement,
+    /// Nothing stands there.
+    Empty,
+    /// The end has a reply rule, and 16 replies are to be written first.
+    HeldBack,
+}
+
+/// What a receive with a read came to.
+#[derive(Clone, Copy, Debug, PartialEq, Eq)]
+pub enum Taken<'a> {
+    /// A call: its message's number, and its tape.
+    Call(&'a [u64]),
     /// A fragment of a call that isn't whole yet.
     Part,
     /// A fragment that only acknowledges.
@@ -149,6 +164,34 @@ impl End {
             (1, count) => Ok(room.get(..count as usize)),
             _ => Ok(None),
         }
+    }
+
+    /// Makes a call, as [`End::call`] does, and puts its first fragment, as [`End::write`] does: both in one, for speed.
+    ///
+    /// # Errors
+    /// Those of [`End::call`], which makes no call then; [`Fault::Spent`]: the call is in transmission, and nothing of it is
+    /// put.
+    pub fn send(&mut self, call: &mut [u64]) -> Result<Written, Fault> {
+        Ok(match self.handle.ask_by(flounder_send, call)? {
+            (1, left) => Written::Fragment { left },
+            _ => Written::Full,
+        })
+    }
+
+    /// Takes a fragment, as [`End::receive`] does, and reads the call that it makes whole into a room, as [`End::read`] does:
+    /// both in one, for speed.
+    ///
+    /// # Errors
+    /// Those of [`End::receive`]. [`Fault::ShortRoom`], or [`Fault::Memory`] with [`Fault::Unread`] at the next receive: a call
+    /// was taken, and stays until it is read.
+    pub fn take_call<'a>(&mut self, room: &'a mut [u64]) -> Result<Taken<'a>, Fault> {
+        Ok(match self.handle.ask_by(flounder_take_call, room)? {
+            (0, _) => Taken::Empty,
+            (1, _) => Taken::Part,
+            (2, _) => Taken::Acknowledgement,
+            (3, _) => Taken::HeldBack,
+            (_, count) => Taken::Call(room.get(..count as usize).unwrap_or_default()),
+        })
     }
 
     /// From now on each call of `message` that comes is answered by `reply` with the same arguments.

@@ -49,6 +49,8 @@ extern "C" {
     pub(crate) fn flounder_write(handle: *mut u8, numbers: *mut u64, count: usize) -> Answer;
     pub(crate) fn flounder_receive(handle: *mut u8, numbers: *mut u64, count: usize) -> Answer;
     pub(crate) fn flounder_read(handle: *mut u8, numbers: *mut u64, count: usize) -> Answer;
+    pub(crate) fn flounder_send(handle: *mut u8, numbers: *mut u64, count: usize) -> Answer;
+    pub(crate) fn flounder_take_call(handle: *mut u8, numbers: *mut u64, count: usize) -> Answer;
     fn rattle_dealloc(at: *mut u8);
 }
 

@@ -14,7 +14,7 @@ mod handle;
 mod program;
 mod side;
 
-pub use end::{ends_of_image, ends_of_text, End, Plan, Received, Written};
+pub use end::{ends_of_image, ends_of_text, End, Plan, Received, Taken, Written};
 pub use fault::{Fault, TextFault};
 pub use program::{program_of_image, program_of_text, Fed, Program, Receiver, Sender, Sizes};
 pub use side::{duo, Fragment, Side, Sight};

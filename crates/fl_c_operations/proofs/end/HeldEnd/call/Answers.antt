@@ -18,5 +18,5 @@ returns-in-Some c =
     let kept = ap (λ (p : Program). handled_by p i.handled) c.call_frag.ensures.program in
     record {
       calls = subst (λ (h : TheHeld). CallsBy h c.args.numbers.now c.called.result after) same
-          (inr (short.0, c.call_frag.result, short.1, c.call_frag.ensures.calls short.0 short.1.3.fits short.2.frags, c.called.ensures.told, (refl, refl, kept)));
+          (inr (short.0, c.call_frag.result, short.1, c.call_frag.ensures.calls short.0 short.1.3.fits short.2, c.called.ensures.told, (refl, refl, kept)));
     }

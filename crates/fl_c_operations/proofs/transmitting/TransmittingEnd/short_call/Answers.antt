@@ -14,7 +14,7 @@ returns-in_default c =
     let f = bare c.args.frag.now in
     let x = program_of h.end.program in
     let coded = subst (AreCodecs x) (sym c.as_slice.ensures.value) c.self.invariant.coded in
-    let none : IsNoShortAt h.end f = λ call fits only rule. c.in_default.ensures.none x coded call fits only in
+    let none : IsNoShortAt h.end f = λ call fits few only rule. c.in_default.ensures.none x coded call fits few only in
     record { short = tt; none = subst (λ (s : TheEnd). IsNoShortAt s f) c.self.view_is (no_short_transmitting h.in_transmission h.end f none) }
 
 -- there is a reply to it by rule
@@ -25,7 +25,7 @@ returns-in-Some-rule_for c =
     let x = program_of h.end.program in
     let coded = subst (AreCodecs x) (sym c.as_slice.ensures.value) c.self.invariant.coded in
     let call = c.in-Some.call in
-    let none = ruled h.end c.args.frag.now call.msg.0 _ (numbers_of call.numbers) coded.within (c.in-Some.ensures.short x coded) c.in-Some-rule_for.ensures.rule in
+    let none = ruled h.end c.args.frag.now call.msg.0 _ (numbers_of call.numbers) coded.within (c.in-Some.ensures.few x coded) (c.in-Some.ensures.short x coded) c.in-Some-rule_for.ensures.rule in
     record { short = tt; none = subst (λ (s : TheEnd). IsNoShortAt s f) c.self.view_is (no_short_transmitting h.in_transmission h.end f none) }
 
 pub returns-in-None : goal.returns-in-None

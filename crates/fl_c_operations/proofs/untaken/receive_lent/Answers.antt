@@ -1,7 +1,7 @@
 use Rattle.fl_link.specs.Looks.{Look}
 use Rattle.fl_c_operations.specs.Seen.{TheLooked, SeenTakes}
 use Rattle.fl_c_operations.proofs.Looking.{goes_over_at, lent_over}
-use Rattle.fl_c_operations.proofs.glance.receive_lent.Goals as goal
+use Rattle.fl_c_operations.proofs.untaken.receive_lent.Goals as goal
 
 pub returns : goal.returns
 returns c =
