@@ -138,7 +138,7 @@ impl<'a> PartialCoresFile<'a> {
         ensures comes { ComesTo result (reading_of self.new) (Does (reading_of self.old) (a_line (line_with (command_by Verb.Call rest.now)))) }
     {
         let room = mem::replace(&mut self.room, Vec::new(self.draft.alloc));
-        match self.names.call_line(rest, room) {
+        match self.names.call_line(rest, room, 0) {
             Ok((end, mut call)) => {
                 let taken = self.draft.call(end, &mut call);
                 self.room = call.args;

@@ -1,7 +1,7 @@
 -- Events and answers of the code, as the machine has them.
 use Rattle.std.specs.Prelude.{ℕ, List, take}
 use Rattle.fl_interface.specs.Interface.{interface_of}
-use Rattle.fl_value_data.specs.Value.{call_of}
+use Rattle.fl_value_data.specs.Value.{TheCall, call_of}
 use Rattle.fl_model.specs.Events.{DispatcherId, Kind, by_queues, by_ring, by_route, Event, add_interface, set_cores}
 use Rattle.fl_model.specs.Events.{add_link, add_dispatcher}
 use Rattle.fl_model.specs.Events.{monitor_write, monitor_ack, Answer, done, accepted, nothing, full}
@@ -10,6 +10,10 @@ use Rattle.fl_model.specs.Events.{words, refused}
 use Rattle.fl_model.specs.Events as machine
 use Rattle.fl_model.specs.declared.answer.Answer.{Answer as RustAnswer}
 use Rattle.fl_model.specs.declared.answer.Answer.TheVariants as answer
+use Rattle.fl_model.specs.declared.answer.BriefAnswer.{BriefAnswer}
+use Rattle.fl_model.specs.declared.answer.BriefAnswer.TheVariants as brief
+use Rattle.fl_model.specs.declared.answer.TurnedAnswer.{TurnedAnswer}
+use Rattle.fl_model.specs.declared.answer.TurnedAnswer.TheVariants as turned
 use Rattle.fl_model.specs.declared.event.DispatcherId.{DispatcherId as RustDispatcherId}
 use Rattle.fl_model.specs.declared.event.Event.{Event as RustEvent}
 use Rattle.fl_model.specs.declared.event.Event.TheVariants as event
@@ -62,3 +66,24 @@ answer_of (answer.Opened e) = opened e
 answer_of (answer.OpeningRefused n e) = opening_refused n e
 answer_of (answer.Words frag) = words frag
 answer_of (answer.Refused n) = refused n
+
+abbrev pub brief_of : BriefAnswer → Answer
+brief_of brief.Done = done
+brief_of brief.Accepted = accepted
+brief_of brief.Nothing = nothing
+brief_of brief.Full = full
+brief_of (brief.Written k n) = written k n
+brief_of brief.Forwarded = forwarded
+brief_of (brief.Opened e) = opened e
+brief_of (brief.OpeningRefused n e) = opening_refused n e
+brief_of (brief.Refused n) = refused n
+
+-- what is answered to a turn, where the call that was handled, if one was, is this one
+abbrev pub turned_of : TurnedAnswer → TheCall → Answer
+turned_of (turned.Handle e) call = handle e call
+turned_of (turned.Part e) call = part e
+turned_of (turned.Ready e) call = ready e
+turned_of (turned.Quiet e) call = quiet e
+turned_of turned.Full call = full
+turned_of turned.Nothing call = nothing
+turned_of (turned.Refused n) call = refused n

@@ -19,7 +19,7 @@ mod event;
 mod machine;
 mod route;
 
-pub use answer::Answer;
+pub use answer::{Answer, BriefAnswer, TurnedAnswer};
 pub use back_end::BackEnd;
 pub use event::{DispatcherId, Event};
 pub use machine::Machine;

@@ -9,8 +9,7 @@ use Rattle.fl_model.specs.declared.event.Event.{Event as RustEvent}
 use Rattle.fl_script_lines.specs.declared.fault.LineFault.{LineFault}
 use Rattle.fl_script_lines.specs.declared.fault.LineFault.TheVariants.{Memory}
 use Rattle.fl_script_lines.specs.Answers.{answer_text, line}
-use Rattle.fl_model.specs.declared.answer.Answer.{Answer as RustAnswer}
-use Rattle.fl_model.specs.Views.{event_of, answer_of}
+use Rattle.fl_model.specs.Views.{event_of}
 use Rattle.fl_script_lines.specs.Faults.{number_of}
 use Rattle.fl_model.specs.Events.{is_done}
 use Rattle.fl_script_lines.specs.Asked.{Asked, asks, names_after}
@@ -47,15 +46,15 @@ asked_event shows old new before after event answer names steps text s at =
           ∙ ap (λ (a : Answer). before ++ line (answer_text (names_after s.names s.names (step s.state event).answer) a)) told);
     }
 
--- the same of an outcome that is read where it lies
-asked_outcome : {M T E F : Type 0} (shows : M → State → Type 0) (old new : RustScript M) (before after : List ℕ) (event : Event)
-    (outcome : Result RustAnswer F) (result : Result T E) → names_of new.names ≡ names_of old.names
-    → IfOk outcome (λ a. Steps shows old.machine new.machine event (answer_of a))
-    → OnOk result (IfOk outcome (λ a. after ≡ before ++ line (answer_text (names_of new.names) (answer_of a)))) → OnErr outcome (OnOk result ⊥)
+-- the same of an outcome; `meaning` tells the machine's answer of the code's
+asked_outcome : {M A T E F : Type 0} (meaning : A → Answer) (shows : M → State → Type 0) (old new : RustScript M) (before after : List ℕ) (event : Event)
+    (outcome : Result A F) (result : Result T E) → names_of new.names ≡ names_of old.names
+    → IfOk outcome (λ a. Steps shows old.machine new.machine event (meaning a))
+    → OnOk result (IfOk outcome (λ a. after ≡ before ++ line (answer_text (names_of new.names) (meaning a)))) → OnErr outcome (OnOk result ⊥)
     → OnOk result (AnswersBy shows old new before after (λ s. effect_of s (asks event s.names)))
-asked_outcome shows old new before after event (Ok a) result names steps put none =
-    on_ok_weaker result (λ text. asked_event shows old new before after event (answer_of a) names steps text) put
-asked_outcome shows old new before after event (Err e) result names steps put none = on_ok_weaker result (λ no. absurd no) none
+asked_outcome meaning shows old new before after event (Ok a) result names steps put none =
+    on_ok_weaker result (λ text. asked_event shows old new before after event (meaning a) names steps text) put
+asked_outcome meaning shows old new before after event (Err e) result names steps put none = on_ok_weaker result (λ no. absurd no) none
 
 does_line : (s : Script) (o : Option Command) (asked : Asked) → LineAsks s.names o asked → Does s (a_line (line_with o)) (effect_of s asked)
 does_line s None asked h = ap (effect_of s) h
@@ -85,16 +84,16 @@ line_asked shows old new before after o event result tells ok =
     (on_ok_weaker result (λ f. λ s at asked told. subst (λ (a : Asked). Answered shows new before after (effect_of s a)) told (f s at)) ok)
     (λ bad. absurd (cc))
 
--- the same of an outcome that is read where it lies
-pub line_stepped : {M T E F : Type 0} (shows : M → State → Type 0) (old new : RustScript M) (before after : List ℕ) (o : Option Command)
-    (event : RustEvent) (outcome : Result RustAnswer F) (result : Result T E) → LineTells (names_of old.names) o (Ok event)
+-- the same of an outcome
+pub line_stepped : {M A T E F : Type 0} (meaning : A → Answer) (shows : M → State → Type 0) (old new : RustScript M) (before after : List ℕ) (o : Option Command)
+    (event : RustEvent) (outcome : Result A F) (result : Result T E) → LineTells (names_of old.names) o (Ok event)
     → names_of new.names ≡ names_of old.names
-    → IfOk outcome (λ a. Steps shows old.machine new.machine (event_of event) (answer_of a))
-    → OnOk result (IfOk outcome (λ a. after ≡ before ++ line (answer_text (names_of new.names) (answer_of a)))) → OnErr outcome (OnOk result ⊥)
+    → IfOk outcome (λ a. Steps shows old.machine new.machine (event_of event) (meaning a))
+    → OnOk result (IfOk outcome (λ a. after ≡ before ++ line (answer_text (names_of new.names) (meaning a)))) → OnErr outcome (OnOk result ⊥)
     → OnOk result (Answers shows old new before after (λ s. Does s (a_line (line_with o))))
-line_stepped shows old new before after o event outcome result tells names steps put none =
+line_stepped meaning shows old new before after o event outcome result tells names steps put none =
     line_asked shows old new before after o event result tells
-    (asked_outcome shows old new before after (event_of event) outcome result names steps put none)
+    (asked_outcome meaning shows old new before after (event_of event) outcome result names steps put none)
 
 -- a script whose names and system are those of before is where it was, whatever room it has
 same_place : {M : Type 0} (shows : M → State → Type 0) (old now : RustScript M) (s : Script) → names_of now.names ≡ names_of old.names

@@ -5,7 +5,8 @@ ghost use Rattle.fl_interface.specs.Interface.{interface_of};
 ghost use Rattle.fl_script_lines.specs.declared.fault.LineFault.TheVariants.{Memory};
 ghost use Rattle.fl_script_lines.specs.Answers.{answer_text, line};
 ghost use Rattle.fl_script_lines.specs.Asked.{asks};
-ghost use Rattle.fl_model.specs.Views.{event_of, answer_of};
+ghost use Rattle.fl_model.specs.Views.{event_of, answer_of, brief_of, turned_of};
+ghost use Rattle.fl_value_data.specs.Value.{call_of};
 ghost use Rattle.fl_script_lines.specs.Faults.{number_of};
 ghost use Rattle.fl_script_lines.specs.Grammar.{command as of_command};
 ghost use Rattle.fl_script_lines.specs.Items.{a_line, a_block};
@@ -17,15 +18,15 @@ ghost use Rattle.fl_script_exec.specs.Transcript.{beginning, writes_only, effect
 ghost use Rattle.fl_script_exec.specs.Transcript.{block_effect, Does};
 ghost use Rattle.fl_check.specs.Text.{stands_for, text_fault};
 
-use fl_base::faults;
+use fl_base::{MsgNo, faults};
 use fl_check::{TextRead, read_text};
 use fl_interface::Interface;
-use fl_model::{Answer, Machine};
+use fl_model::{Answer, BriefAnswer, Machine, TurnedAnswer};
 use fl_script_lines::{
     Command, LineFault, NamedEvent, RawItem, ScriptNames, Verb, next_part, next_repeated,
-    print_answer, print_fault, read_command,
+    print_answer, print_brief, print_fault, print_turned, read_command,
 };
-use fl_value_data::{PlanNo, Value};
+use fl_value_data::{Call, PlanNo, Value};
 use std::alloc::{AllocError, Global};
 use std::mem;
 
@@ -37,8 +38,10 @@ pub struct Script<M> {
     pub machine: M,
     // The last call's arguments: their memory is that of the next one's.
     room: Vec<Value>,
-    // The binding of the last call: most writes are of the same.
+    // The binding of the last call: most writes are of the same, and the next call is often of the one behind it.
     last: usize,
+    // The call that was handled last.
+    handled: Call,
 }
 
 impl<M: Machine> Script<M> {
@@ -55,6 +58,10 @@ impl<M: Machine> Script<M> {
             machine: M::new(alloc)?,
             room: Vec::new(alloc),
             last: 0,
+            handled: Call {
+                msg: MsgNo(0),
+                args: Vec::new(alloc),
+            },
         })
     }
 
@@ -81,6 +88,48 @@ impl<M: Machine> Script<M> {
         match outcome {
             Ok(answer) => self.put_answer(answer, out),
             Err(_) => Err(AllocError),
+        }
+    }
+
+    // Writes the line of an answer in brief, if there is one.
+    #[inline(always)]
+    fn put_brief(
+        &self,
+        outcome: Result<BriefAnswer, AllocError>,
+        out: &mut Vec<u8>,
+    ) -> Result<(), AllocError>
+        ensures put { OnOk result (IfOk outcome (λ a.
+            out.new.items ≡ out.old.items ++ line (answer_text (names_of self.now.names) (brief_of a)))) }
+        ensures none { OnErr outcome (OnOk result ⊥) }
+    {
+        match outcome {
+            Ok(answer) => {
+                print_brief(out, &self.names, answer)?;
+                out.push(b'\n')?;
+                Ok(())
+            }
+            Err(error) => Err(error),
+        }
+    }
+
+    // Writes the line of a turn's answer, if there is one.
+    #[inline(always)]
+    fn put_turned(
+        &self,
+        outcome: Result<TurnedAnswer, AllocError>,
+        out: &mut Vec<u8>,
+    ) -> Result<(), AllocError>
+        ensures put { OnOk result (IfOk outcome (λ a.
+            out.new.items ≡ out.old.items ++ line (answer_text (names_of self.now.names) (turned_of a (call_of self.now.handled))))) }
+        ensures none { OnErr outcome (OnOk result ⊥) }
+    {
+        match outcome {
+            Ok(answer) => {
+                print_turned(self.alloc, out, &self.names, answer, &self.handled)?;
+                out.push(b'\n')?;
+                Ok(())
+            }
+            Err(error) => Err(error),
         }
     }
 
@@ -202,12 +251,14 @@ impl<M: Machine> Script<M> {
             (λ s. Does s (a_line (line_with (command_by Verb.Call rest.now))))) }
     {
         let room = mem::replace(&mut self.room, Vec::new(self.alloc));
-        match self.names.call_line(rest, room) {
+        // Scripts often call at one binding after another.
+        let guess = self.last.saturating_add(1);
+        match self.names.call_line(rest, room, guess) {
             Ok((end, call)) => {
                 let outcome = self.machine.step_call(end, &call);
                 self.room = call.args;
                 self.last = end.binding;
-                self.put_outcome(&outcome, out)
+                self.put_brief(outcome, out)
             }
             Err(fault) => self.refuse_by(fault, out),
         }
@@ -221,7 +272,7 @@ impl<M: Machine> Script<M> {
         match self.names.write_line(rest, self.last) {
             Ok(end) => {
                 let outcome = self.machine.step_write(end);
-                self.put_outcome(&outcome, out)
+                self.put_brief(outcome, out)
             }
             Err(fault) => self.refuse_by(fault, out),
         }
@@ -234,8 +285,8 @@ impl<M: Machine> Script<M> {
     {
         match self.names.turn_line(rest) {
             Ok(dispatcher) => {
-                let outcome = self.machine.step_turn(dispatcher);
-                self.put_outcome(&outcome, out)
+                let outcome = self.machine.step_turn(dispatcher, &mut self.handled);
+                self.put_turned(outcome, out)
             }
             Err(fault) => self.refuse_by(fault, out),
         }
@@ -263,7 +314,7 @@ impl<M: Machine> Script<M> {
         match self.names.ack_line(rest) {
             Ok(end) => {
                 let outcome = self.machine.step_ack(end);
-                self.put_outcome(&outcome, out)
+                self.put_brief(outcome, out)
             }
             Err(fault) => self.refuse_by(fault, out),
         }
@@ -277,7 +328,7 @@ impl<M: Machine> Script<M> {
         match self.names.forward_line(rest) {
             Ok((core, neighbour)) => {
                 let outcome = self.machine.step_forward(core, neighbour);
-                self.put_outcome(&outcome, out)
+                self.put_brief(outcome, out)
             }
             Err(fault) => self.refuse_by(fault, out),
         }

@@ -5,12 +5,12 @@ ghost use Rattle.std.specs.Fmt.{decimal, digit_glyph};
 ghost use Rattle.fl_base.specs.Prefix.{IsPrefix};
 ghost use Rattle.fl_value_data.specs.Value.{call_of};
 ghost use Rattle.fl_script_lines.specs.Answers.{hex, frag_text, end_named, call_at, answer_text, fault_text};
-ghost use Rattle.fl_model.specs.Views.{answer_of};
+ghost use Rattle.fl_model.specs.Views.{answer_of, brief_of, turned_of};
 ghost use Rattle.fl_script_lines.specs.Told.{names_of};
 
 use crate::names::ScriptNames;
 use fl_base::{EndId, Frag, Side};
-use fl_model::Answer;
+use fl_model::{Answer, BriefAnswer, TurnedAnswer};
 use fl_value::print_call;
 use fl_value_data::Call;
 use std::alloc::{AllocError, Global};
@@ -386,6 +386,60 @@ pub fn print_answer(
         Answer::OpeningRefused { number, end } => print_opening_refused(out, *number, names, *end),
         Answer::Words(frag) => print_frag(out, frag),
         Answer::Refused(number) => print_refused(out, usize::from(*number)),
+    }
+}
+
+/// Appends the text of an answer in brief, without a line feed.
+///
+/// # Errors
+/// Out of memory; `out` is as it was then.
+#[inline(always)]
+pub fn print_brief(
+    out: &mut Vec<u8>,
+    names: &ScriptNames,
+    answer: BriefAnswer,
+) -> Result<(), AllocError>
+    ensures printed { OnOk result (out.new.items ≡ out.old.items ++ answer_text (names_of names.now) (brief_of answer)) }
+    ensures kept { OnErr result (out.new.items ≡ out.old.items) }
+{
+    match answer {
+        BriefAnswer::Done => print_text(out, b"ok"),
+        BriefAnswer::Accepted => print_text(out, b"accepted"),
+        BriefAnswer::Nothing => print_text(out, b"nothing"),
+        BriefAnswer::Full => print_text(out, b"full"),
+        BriefAnswer::Written { k, n } => print_written(out, k, n),
+        BriefAnswer::Forwarded => print_text(out, b"forwarded"),
+        BriefAnswer::Opened(end) => print_of_end(out, b"opened ", names, end),
+        BriefAnswer::OpeningRefused { number, end } => print_opening_refused(
+            out, number, names, end,
+        ),
+        BriefAnswer::Refused(number) => print_refused(out, usize::from(number)),
+    }
+}
+
+/// Appends the text of a turn's answer, without a line feed; `handled` is the call that was handled, if one was.
+///
+/// # Errors
+/// Out of memory; `out` is as it was then.
+#[inline(always)]
+pub fn print_turned(
+    alloc: Global,
+    out: &mut Vec<u8>,
+    names: &ScriptNames,
+    answer: TurnedAnswer,
+    handled: &Call,
+) -> Result<(), AllocError>
+    ensures printed { OnOk result (out.new.items ≡ out.old.items ++ answer_text (names_of names.now) (turned_of answer (call_of handled.now))) }
+    ensures kept { OnErr result (out.new.items ≡ out.old.items) }
+{
+    match answer {
+        TurnedAnswer::Handle(end) => print_handled(alloc, out, names, end, handled),
+        TurnedAnswer::Part(end) => print_of_end(out, b"part ", names, end),
+        TurnedAnswer::Ready(end) => print_of_end(out, b"ready ", names, end),
+        TurnedAnswer::Quiet(end) => print_of_end(out, b"quiet ", names, end),
+        TurnedAnswer::Full => print_text(out, b"full"),
+        TurnedAnswer::Nothing => print_text(out, b"nothing"),
+        TurnedAnswer::Refused(number) => print_refused(out, usize::from(number)),
     }
 }
 

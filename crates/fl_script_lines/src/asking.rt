@@ -27,11 +27,12 @@ impl ScriptNames {
         end: EndName<'_>,
         name: &[u8],
         args: Vec<Value>,
+        guess: usize,
     ) -> Result<(EndId, Call), LineFault>
         ensures tells { TellsEvent (names_of self.now) (told_as a_call result)
             (asks_call (names_of self.now) (end_name_of end.entry) name.now (map datum_of args.items)) }
     {
-        let Some(end) = self.end(end) else {
+        let Some(end) = self.end_near(end, guess) else {
             return Err(LineFault::Name);
         };
         let Some(msg) = self.message(end, name) else {
@@ -41,7 +42,8 @@ impl ScriptNames {
     }
 
     /// The call that a text spells, at the end of a name: the text is read first, then the end is looked up, then the
-    /// message. Its arguments stand in the memory of `room`, whose own values are dropped.
+    /// message. Its arguments stand in the memory of `room`, whose own values are dropped. The end's binding is looked for at the
+    /// place `guess` first; any guess gives the same answer.
     ///
     /// # Errors
     /// The text is none (E90), the name unknown (E92), or there is no such message (E41); else out of memory (E99).
@@ -51,11 +53,12 @@ impl ScriptNames {
         end: EndName<'_>,
         text: &[u8],
         room: Vec<Value>,
+        guess: usize,
     ) -> Result<(EndId, Call), LineFault>
         ensures tells { CallTells (names_of self.now) (end_name_of end.entry) text.now (told_as a_call result) }
     {
         match read_spoken(self.alloc, text, room) {
-            Ok((name, args)) => self.spoken_call(end, name, args),
+            Ok((name, args)) => self.spoken_call(end, name, args, guess),
             Err(ValueFault::NotACall) => Err(LineFault::NotACall),
             Err(_) => Err(self.without_values(end, text)),
         }
@@ -71,25 +74,30 @@ impl ScriptNames {
         let Some(name) = spoken_name(text) else {
             return LineFault::NotACall;
         };
-        match self.spoken_call(end, name, Vec::new(self.alloc)) {
+        match self.spoken_call(end, name, Vec::new(self.alloc), 0) {
             Ok(_asked) => LineFault::Memory,
             Err(fault) => fault,
         }
     }
 
-    /// The call of a line, from what stands behind its first word. `room` is as for [`ScriptNames::call_at`].
+    /// The call of a line, from what stands behind its first word. `room` and `guess` are as for [`ScriptNames::call_at`].
     ///
     /// # Errors
     /// It is no such line, or no call (E90); the name is unknown (E92); there is no such message (E41); else out of memory (E99).
     #[inline(always)]
-    pub fn call_line(&self, rest: &[u8], room: Vec<Value>) -> Result<(EndId, Call), LineFault>
+    pub fn call_line(
+        &self,
+        rest: &[u8],
+        room: Vec<Value>,
+        guess: usize,
+    ) -> Result<(EndId, Call), LineFault>
         ensures tells { LineTells (names_of self.now) (command_by Verb.Call rest.now) (told_as a_call result) }
     {
         let (word, behind) = next_word(rest);
         let Some(end) = end_name(word) else {
             return Err(LineFault::Unread);
         };
-        self.call_at(end, skip_blanks(behind), room)
+        self.call_at(end, skip_blanks(behind), room, guess)
     }
 
     // The end of a line that has an end alone; its binding is looked for at the place `guess` first.

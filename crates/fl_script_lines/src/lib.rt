@@ -31,7 +31,7 @@ mod reader;
 mod table;
 mod word;
 
-pub use answer::{print_answer, print_fault, put_end};
+pub use answer::{print_answer, print_brief, print_fault, print_turned, put_end};
 pub use command::{BackEndText, Command, EndName, Line, LineHead, RouteText, Verb};
 pub use event::{NamedEvent, Naming};
 pub use fault::LineFault;

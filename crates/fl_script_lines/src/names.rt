@@ -327,7 +327,7 @@ impl ScriptNames {
         ensures asks { AsksAs (names_of self.now) (call (end_name_of end.entry) text.now) result }
         ensures new { IfOk result (λ a. IsNew (names_of self.now) a.naming) }
     {
-        match self.call_at(end, text, Vec::new(self.alloc)) {
+        match self.call_at(end, text, Vec::new(self.alloc), 0) {
             Ok((end, call)) => self.ask_event(Event::Call(end, call)),
             Err(fault) => Err(fault),
         }

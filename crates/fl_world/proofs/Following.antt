@@ -26,8 +26,8 @@ use Rattle.fl_world_refines.specs.declared.binding.Binding.{Binding}
 use Rattle.fl_world_refines.specs.View.{TheWorld, ring_at, which_at, with_ring}
 use Rattle.fl_world_refines.specs.Lending.{OverSide, front_for}
 use Rattle.fl_world_refines.specs.Linking.{LinkNumbers, offers_in, LooksWith, incoming, HearsWith, HearsFirst, IsHeard, HasRules}
-use Rattle.fl_model.specs.declared.answer.Answer.{Answer as RustAnswer}
-use Rattle.fl_model.specs.Views.{answer_of}
+use Rattle.fl_model.specs.declared.answer.BriefAnswer.{BriefAnswer}
+use Rattle.fl_model.specs.Views.{brief_of}
 use Rattle.fl_world_events.specs.declared.moving.ForwardFrag.{ForwardFrag}
 use Rattle.fl_world_events.specs.Places.{HasLink}
 use Rattle.fl_world_events.specs.Parts.{InCore}
@@ -145,13 +145,13 @@ follow_forgotten law w w2 w3 n m l known knows (ahead.Arrival f name) h forgets 
 
 -- ---- a core forwards
 
-forward_kept_ahead : ForgetsLooks → (w w2 w3 : TheWorld) (n m l known : ℕ) → KnowsAt w.rings m known → (a : LinkFront) → OverSide w n m (LooksWith l (Ok a)) w2
-    → (r : Result RustAnswer AllocError) → OnErr r (Forgets a w2 m known w3) → OnErr r (w3 ≡ w)
+forward_kept_ahead : {A : Type 0} → ForgetsLooks → (w w2 w3 : TheWorld) (n m l known : ℕ) → KnowsAt w.rings m known → (a : LinkFront) → OverSide w n m (LooksWith l (Ok a)) w2
+    → (r : Result A AllocError) → OnErr r (Forgets a w2 m known w3) → OnErr r (w3 ≡ w)
 forward_kept_ahead law w w2 w3 n m l known knows a h (Ok x) forgets = tt
 forward_kept_ahead law w w2 w3 n m l known knows a h (Err e) forgets = follow_forgotten law w w2 w3 n m l known knows a h forgets
 
-pub forward_kept : ForgetsLooks → (w w2 w3 : TheWorld) (n m l known : ℕ) → KnowsAt w.rings m known → (o : Result LinkFront LinkReceiveFault) → OverSide w n m (LooksWith l o) w2
-    → (a : LinkFront) → o ≡ Ok a → (r : Result RustAnswer AllocError) → OnErr r (Forgets a w2 m known w3) → OnErr r (w3 ≡ w)
+pub forward_kept : {A : Type 0} → ForgetsLooks → (w w2 w3 : TheWorld) (n m l known : ℕ) → KnowsAt w.rings m known → (o : Result LinkFront LinkReceiveFault) → OverSide w n m (LooksWith l o) w2
+    → (a : LinkFront) → o ≡ Ok a → (r : Result A AllocError) → OnErr r (Forgets a w2 m known w3) → OnErr r (w3 ≡ w)
 forward_kept law w w2 w3 n m l known knows o h a is r forgets =
     forward_kept_ahead law w w2 w3 n m l known knows a (subst (λ (x : Result LinkFront LinkReceiveFault). OverSide w n m (LooksWith l x) w2) is h) r forgets
 
@@ -167,25 +167,25 @@ unheard_same w w2 n m o l f h =
 
 -- what isn't heard is answered, and no rules are brought
 left_told : (w w2 w3 : TheWorld) (n : ℕ) (at : LinkNumbers) (f : Frag) (fault : LinkReceiveFault) → OverSide w n at.side (HearsWith (incoming (offers_in w) (link_id at.link) f) (Err fault)) w2
-    → (r : Result RustAnswer AllocError) → OnOk r (w3 ≡ w2) → IfOk r (λ x. IsHeard (Err fault) (answer_of x)) → IfOk r (λ x. HearsFirst n at f w (answer_of x) w3)
+    → (r : Result BriefAnswer AllocError) → OnOk r (w3 ≡ w2) → IfOk r (λ x. IsHeard (Err fault) (brief_of x)) → IfOk r (λ x. HearsFirst n at f w (brief_of x) w3)
 left_told w w2 w3 n at f fault hears (Ok x) same answer = record { told = Err fault; heard = w2; hears = hears; answer = answer; rules = same }
 left_told w w2 w3 n at f fault hears (Err e) same answer = tt
 
 pub left_first : (w w2 w3 : TheWorld) (n : ℕ) (at : LinkNumbers) (f : Frag) (o : Result MonitorAnswer LinkReceiveFault)
     → OverSide w n at.side (HearsWith (incoming (offers_in w) (link_id at.link) f) o) w2 → (fault : LinkReceiveFault) → o ≡ Err fault
-    → (r : Result RustAnswer AllocError) → OnOk r (w3 ≡ w2) → IfOk r (λ x. IsHeard (Err fault) (answer_of x)) → IfOk r (λ x. HearsFirst n at f w (answer_of x) w3)
+    → (r : Result BriefAnswer AllocError) → OnOk r (w3 ≡ w2) → IfOk r (λ x. IsHeard (Err fault) (brief_of x)) → IfOk r (λ x. HearsFirst n at f w (brief_of x) w3)
 left_first w w2 w3 n at f o hears fault is =
     left_told w w2 w3 n at f fault (subst (λ (x : Result MonitorAnswer LinkReceiveFault). OverSide w n at.side (HearsWith (incoming (offers_in w) (link_id at.link) f) x) w2) is hears)
 
-left_for_memory : (w w2 w3 : TheWorld) (n m known : ℕ) (o : Offers) (l : LinkId) (f : Frag) (fault : LinkReceiveFault) → OverSide w n m (HearsWith (incoming o l f) (Err fault)) w2
-    → (r : Result RustAnswer AllocError) → OnErr r (fault ≡ Memory) → OnErr r (Forgot w2 m known w3) → OnErr r (Forgot w m known w3)
+left_for_memory : {A : Type 0} (w w2 w3 : TheWorld) (n m known : ℕ) (o : Offers) (l : LinkId) (f : Frag) (fault : LinkReceiveFault) → OverSide w n m (HearsWith (incoming o l f) (Err fault)) w2
+    → (r : Result A AllocError) → OnErr r (fault ≡ Memory) → OnErr r (Forgot w2 m known w3) → OnErr r (Forgot w m known w3)
 left_for_memory w w2 w3 n m known o l f fault h (Ok x) is forgot = tt
 left_for_memory w w2 w3 n m known o l f fault h (Err e) is forgot =
     subst (λ (x : TheWorld). Forgot x m known w3)
     (unheard_same w w2 n m o l f (subst (λ (x : LinkReceiveFault). OverSide w n m (HearsWith (incoming o l f) (Err x)) w2) is h)) forgot
 
-pub left_forgot : (w w2 w3 : TheWorld) (n m known : ℕ) (o : Offers) (l : LinkId) (f : Frag) (told : Result MonitorAnswer LinkReceiveFault) → OverSide w n m (HearsWith (incoming o l f) told) w2
-    → (fault : LinkReceiveFault) → told ≡ Err fault → (r : Result RustAnswer AllocError) → OnErr r (fault ≡ Memory) → OnErr r (Forgot w2 m known w3) → OnErr r (Forgot w m known w3)
+pub left_forgot : {A : Type 0} (w w2 w3 : TheWorld) (n m known : ℕ) (o : Offers) (l : LinkId) (f : Frag) (told : Result MonitorAnswer LinkReceiveFault) → OverSide w n m (HearsWith (incoming o l f) told) w2
+    → (fault : LinkReceiveFault) → told ≡ Err fault → (r : Result A AllocError) → OnErr r (fault ≡ Memory) → OnErr r (Forgot w2 m known w3) → OnErr r (Forgot w m known w3)
 left_forgot w w2 w3 n m known o l f told h fault is =
     left_for_memory w w2 w3 n m known o l f fault (subst (λ (x : Result MonitorAnswer LinkReceiveFault). OverSide w n m (HearsWith (incoming o l f) x) w2) is h)
 

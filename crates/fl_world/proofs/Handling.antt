@@ -8,7 +8,6 @@ use Rattle.fl_core.specs.declared.wiring.Inlet.{Inlet}
 use Rattle.fl_core.specs.declared.wiring.Inlet.TheVariants as inlet
 use Rattle.fl_core.specs.View.{TheCore}
 use Rattle.fl_model.specs.Events.{DispatcherId}
-use Rattle.fl_model.specs.declared.answer.Answer.{Answer as RustAnswer}
 use Rattle.fl_world_refines.specs.View.{TheWorld, ring_at}
 use Rattle.fl_world_refines.specs.Taking.{IsDue}
 use Rattle.fl_world_events.specs.declared.taking.DueEnd.{DueEnd}
@@ -40,7 +39,7 @@ module _ (w base : TheWorld) (same : base ≡ w) (n : ℕ) (below : n < length b
 
 -- ---- by the end that is due
 
-pub wants_to_handle : (w : TheWorld) (d : DispatcherId) (e : ℕ) (name : EndId) (i : Inlet) → IsDue w d e name i → (o : Result RustAnswer AllocError)
+pub wants_to_handle : {A : Type 0} (w : TheWorld) (d : DispatcherId) (e : ℕ) (name : EndId) (i : Inlet) → IsDue w d e name i → (o : Result A AllocError)
     → OnErr o (HandlesFrom i d.core (record { dispatcher = d.place; end = e; name = name }) w) → OnErr o (WantsToHandle d w)
 wants_to_handle w d e name i due (Ok a) h = tt
 wants_to_handle w d e name i due (Err error) h = record {

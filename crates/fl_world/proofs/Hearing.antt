@@ -10,7 +10,6 @@ use Rattle.fl_core.specs.declared.fault.LinkReceiveFault.{LinkReceiveFault}
 use Rattle.fl_core.specs.declared.fault.LinkReceiveFault.TheVariants.{Memory}
 use Rattle.fl_core.specs.Hearing.{Offers, HearsFragLast}
 use Rattle.fl_core.specs.View.{TheCore}
-use Rattle.fl_model.specs.declared.answer.Answer.{Answer as RustAnswer}
 use Rattle.fl_world_refines.specs.View.{TheWorld}
 use Rattle.fl_world_refines.specs.Lending.{OverSide}
 use Rattle.fl_world_refines.specs.Linking.{LinkNumbers, offers_in, LooksWith}
@@ -31,8 +30,8 @@ one_fault : (a b : LinkReceiveFault) → (let x : Result MonitorAnswer LinkRecei
 one_fault a b e = cc
 
 -- want of memory is all that is handed on
-pub left_says : (w : TheWorld) (n : ℕ) (l : LinkId) (f : Frag) (o : Result MonitorAnswer LinkReceiveFault) → IfErr o (λ fault. WouldSay n l f fault w)
-    → (fault : LinkReceiveFault) → o ≡ Err fault → (r : Result RustAnswer AllocError) → OnErr r (fault ≡ Memory) → OnErr r (WouldSay n l f Memory w)
+pub left_says : {A : Type 0} (w : TheWorld) (n : ℕ) (l : LinkId) (f : Frag) (o : Result MonitorAnswer LinkReceiveFault) → IfErr o (λ fault. WouldSay n l f fault w)
+    → (fault : LinkReceiveFault) → o ≡ Err fault → (r : Result A AllocError) → OnErr r (fault ≡ Memory) → OnErr r (WouldSay n l f Memory w)
 left_says w n l f (Ok a) h fault is r only = absurd (cc)
 left_says w n l f (Err g) h fault is (Ok x) only = tt
 left_says w n l f (Err g) h fault is (Err e) only = subst (λ (x : LinkReceiveFault). WouldSay n l f x w) (one_fault g fault is ∙ only) h
@@ -45,8 +44,8 @@ finds w w2 n at (ahead.Onward frag onto circuit) looks says = absurd says
 finds w w2 n at (ahead.Arrival frag name) looks says = absurd says
 
 -- what a look found is followed
-pub finds_message : (w w2 : TheWorld) (n : ℕ) (at : LinkNumbers) (o : Result LinkFront LinkReceiveFault) → OverSide w n at.side (LooksWith at.link o) w2
-    → (a : LinkFront) → o ≡ Ok a → (r : Result RustAnswer AllocError) → OnErr r (SaysAhead a n at w2) → OnErr r (FindsMessage n at w)
+pub finds_message : {A : Type 0} (w w2 : TheWorld) (n : ℕ) (at : LinkNumbers) (o : Result LinkFront LinkReceiveFault) → OverSide w n at.side (LooksWith at.link o) w2
+    → (a : LinkFront) → o ≡ Ok a → (r : Result A AllocError) → OnErr r (SaysAhead a n at w2) → OnErr r (FindsMessage n at w)
 finds_message w w2 n at o h a is (Ok x) says = tt
 finds_message w w2 n at o h a is (Err e) says =
     finds w w2 n at a (subst (λ (x : Result LinkFront LinkReceiveFault). OverSide w n at.side (LooksWith at.link x) w2) is h) says

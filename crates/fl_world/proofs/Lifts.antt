@@ -16,8 +16,10 @@ use Rattle.fl_world_refines.specs.Linking.{incoming, HearsWith}
 use Rattle.fl_core.specs.View.{TheCore}
 use Rattle.std.specs.declared.alloc.AllocError.{AllocError}
 use Rattle.fl_base.specs.Given.{given}
-use Rattle.fl_model.specs.declared.answer.Answer.{Answer as RustAnswer}
-use Rattle.fl_model.specs.Views.{answer_of}
+use Rattle.fl_model.specs.declared.answer.BriefAnswer.{BriefAnswer}
+use Rattle.fl_model.specs.declared.answer.TurnedAnswer.{TurnedAnswer}
+use Rattle.fl_value_data.specs.Value.{TheCall}
+use Rattle.fl_model.specs.Views.{brief_of, turned_of}
 use Rattle.fl_core.specs.declared.wiring.Inlet.{Inlet}
 use Rattle.fl_world_events.specs.declared.taking.DueEnd.{DueEnd}
 use Rattle.fl_model.specs.Events.{Answer}
@@ -192,36 +194,36 @@ over_side_alone w base same n m i at below there k read value view r rread rvalu
 
 -- ---- where there may be no memory
 
-pub core_if_ok : (w base : TheWorld) → base ≡ w → (n : ℕ) → n < length base.cores → (k read : TheCore) → read ≡ slice_index_or base.cores n read → k ≡ read
-    → (Event : RustAnswer → TheCore → TheCore → Type 0) (k2 : TheCore) (r : Result RustAnswer AllocError) → IfOk r (λ a. InCore (Event a) k k2)
+pub core_if_ok : {A : Type 0} (w base : TheWorld) → base ≡ w → (n : ℕ) → n < length base.cores → (k read : TheCore) → read ≡ slice_index_or base.cores n read → k ≡ read
+    → (Event : A → TheCore → TheCore → Type 0) (k2 : TheCore) (r : Result A AllocError) → IfOk r (λ a. InCore (Event a) k k2)
     → IfOk r (λ a. AtCore w n (Event a) (record base { cores = slice_set base.cores n k2 }))
 core_if_ok w base same n below k read value view Event k2 (Ok a) h = at_core w base same n below k read value view (Event a) k2 h
 core_if_ok w base same n below k read value view Event k2 (Err e) h = tt
 
 pub queue_if_ok : (w base : TheWorld) → base ≡ w → (n q : ℕ) → n < length base.cores → q < length base.queues
     → (k read : TheCore) → read ≡ slice_index_or base.cores n read → k ≡ read → (p pread : TheQueue) → pread ≡ slice_index_or base.queues q pread → p ≡ pread
-    → (Event : RustAnswer → TheCore → TheQueue → TheCore → TheQueue → Type 0) (k2 : TheCore) (p2 : TheQueue) (r : Result RustAnswer AllocError)
+    → (Event : TurnedAnswer → TheCore → TheQueue → TheCore → TheQueue → Type 0) (call : TheCall) (k2 : TheCore) (p2 : TheQueue) (r : Result TurnedAnswer AllocError)
     → IfOk r (λ a. ByQueue (Event a) k p k2 p2)
     → IfOk r (λ a. OverQueue w n q (Event a) (record base { cores = slice_set base.cores n k2; queues = slice_set base.queues q p2 })
-    ⊎ IsStray w.queues q w (answer_of a) (record base { cores = slice_set base.cores n k2; queues = slice_set base.queues q p2 }))
-queue_if_ok w base same n q below there k read value view p pread pvalue pview Event k2 p2 (Ok a) h =
+    ⊎ IsStray w.queues q w (turned_of a call) (record base { cores = slice_set base.cores n k2; queues = slice_set base.queues q p2 }))
+queue_if_ok w base same n q below there k read value view p pread pvalue pview Event call k2 p2 (Ok a) h =
     inl (over_queue w base same n q below there k read value view p pread pvalue pview (Event a) k2 p2 h)
-queue_if_ok w base same n q below there k read value view p pread pvalue pview Event k2 p2 (Err e) h = tt
+queue_if_ok w base same n q below there k read value view p pread pvalue pview Event call k2 p2 (Err e) h = tt
 
 pub side_if_ok : (w base : TheWorld) → base ≡ w → (n m i : ℕ) → i ≡ ring_at m → n < length base.cores → i < length base.rings
     → (k read : TheCore) → read ≡ slice_index_or base.cores n read → k ≡ read → (r rread : TheDuo) → rread ≡ slice_index_or base.rings i rread → r ≡ rread
-    → (Event : RustAnswer → TheCore → DuoSide → TheCore → DuoSide → Type 0) (k2 : TheCore) (r2 : TheDuo) (o : Result RustAnswer AllocError)
+    → (Event : TurnedAnswer → TheCore → DuoSide → TheCore → DuoSide → Type 0) (call : TheCall) (k2 : TheCore) (r2 : TheDuo) (o : Result TurnedAnswer AllocError)
     → IfOk o (λ a. ByRing m (Event a) k r k2 r2)
     → IfOk o (λ a. OverSide w n m (Event a) (record base { cores = slice_set base.cores n k2; rings = slice_set base.rings i r2 })
-    ⊎ IsStray w.rings (ring_at m) w (answer_of a) (record base { cores = slice_set base.cores n k2; rings = slice_set base.rings i r2 }))
-side_if_ok w base same n m i at below there k read value view r rread rvalue rview Event k2 r2 (Ok a) h =
+    ⊎ IsStray w.rings (ring_at m) w (turned_of a call) (record base { cores = slice_set base.cores n k2; rings = slice_set base.rings i r2 }))
+side_if_ok w base same n m i at below there k read value view r rread rvalue rview Event call k2 r2 (Ok a) h =
     inl (over_side w base same n m i at below there k read value view r rread rvalue rview (Event a) k2 r2 h)
-side_if_ok w base same n m i at below there k read value view r rread rvalue rview Event k2 r2 (Err e) h = tt
+side_if_ok w base same n m i at below there k read value view r rread rvalue rview Event call k2 r2 (Err e) h = tt
 
 pub unmade_if_ok : (w base : TheWorld) → base ≡ w → (n : ℕ) → n < length base.bindings → (b read : Binding) → read ≡ slice_index_or base.bindings n read → b ≡ read
-    → (Event : RustAnswer → TheEnd → TheEnd → Type 0) (b2 : Binding) (r : Result RustAnswer AllocError) → IfOk r (λ a. KeptOrNone (Event a) (answer_of a) b b2)
-    → IfOk r (λ a. AtUnmadeOrNone w n (Event a) (answer_of a) (record base { bindings = slice_set base.bindings n b2 }))
-unmade_if_ok w base same n below b read value view Event b2 (Ok a) h = at_unmade w base same n below b read value view (Event a) (answer_of a) b2 h
+    → (Event : BriefAnswer → TheEnd → TheEnd → Type 0) (b2 : Binding) (r : Result BriefAnswer AllocError) → IfOk r (λ a. KeptOrNone (Event a) (brief_of a) b b2)
+    → IfOk r (λ a. AtUnmadeOrNone w n (Event a) (brief_of a) (record base { bindings = slice_set base.bindings n b2 }))
+unmade_if_ok w base same n below b read value view Event b2 (Ok a) h = at_unmade w base same n below b read value view (Event a) (brief_of a) b2 h
 unmade_if_ok w base same n below b read value view Event b2 (Err e) h = tt
 
 pub binding_read : (w base : TheWorld) → base ≡ w → (n : ℕ) → n < length w.bindings → n < length base.bindings

@@ -129,10 +129,10 @@ whichever P (Err e) h = h
 
 -- ---- the machine that a script runs on
 
-pub steps_as : (v : Event) (w w2 : TheWorld) (r : Result RustAnswer AllocError) → IfOk r (λ a. StepsAlike v w (answer_of a) w2)
-    → IfOk r (λ a. machine.Steps Shows w w2 v (answer_of a))
-steps_as v w w2 (Err e) h = tt
-steps_as v w w2 (Ok a) h = record { shown = λ s is. (h s is).shows; answered = λ s is. sym (h s is).answer }
+pub steps_as : {A : Type 0} (meaning : A → Answer) (v : Event) (w w2 : TheWorld) (r : Result A AllocError)
+    → IfOk r (λ a. StepsAlike v w (meaning a) w2) → IfOk r (λ a. machine.Steps Shows w w2 v (meaning a))
+steps_as meaning v w w2 (Err e) h = tt
+steps_as meaning v w w2 (Ok a) h = record { shown = λ s is. (h s is).shows; answered = λ s is. sym (h s is).answer }
 
 pub shows_still : {X E : Type 0} (r : Result X E) (w w2 : TheWorld) → OnErr r (w2 ≡ w) → OnErr r ((s : State) → Shows w s → Shows w2 s)
 shows_still (Ok x) w w2 h = tt

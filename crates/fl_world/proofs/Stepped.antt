@@ -2,7 +2,7 @@
 use Rattle.std.proofs.Common.{◌≡◌, sym, ◌∙◌, Result, Ok, Err, IfOk, true, false}
 use Rattle.std.specs.Prelude.{OnErr}
 use Rattle.std.specs.declared.alloc.AllocError.{AllocError}
-use Rattle.fl_model.specs.Events.{Event}
+use Rattle.fl_model.specs.Events.{Event, Answer}
 use Rattle.fl_model.specs.State.{State}
 use Rattle.fl_model.specs.declared.answer.Answer.{Answer as RustAnswer}
 use Rattle.fl_model.specs.Views.{answer_of}
@@ -28,28 +28,30 @@ settles_by event w w2 (Err e) h closed = tt
 
 -- ---- a step
 
-pub steps_by : (event : Event) (w made w2 : TheWorld) (r : Result RustAnswer AllocError) → IfOk r (λ a. Does event w (answer_of a) made)
-    → IfOk r (λ a. w2 ≡ settled event (answer_of a) made) → IfOk r (λ a. Steps event w (answer_of a) w2)
-steps_by event w made w2 (Ok a) does rest = record { made = made; does = does; rest = rest }
-steps_by event w made w2 (Err e) does rest = tt
+-- `meaning` tells the machine's answer of the code's
+pub steps_by : {A : Type 0} (meaning : A → Answer) (event : Event) (w made w2 : TheWorld) (r : Result A AllocError)
+    → IfOk r (λ a. Does event w (meaning a) made) → IfOk r (λ a. w2 ≡ settled event (meaning a) made)
+    → IfOk r (λ a. Steps event w (meaning a) w2)
+steps_by meaning event w made w2 (Ok a) does rest = record { made = made; does = does; rest = rest }
+steps_by meaning event w made w2 (Err e) does rest = tt
 
-pub agrees_by : (event : Event) (w w2 : TheWorld) (r : Result RustAnswer AllocError) → StepsAgree → IfOk r (λ a. Steps event w (answer_of a) w2)
-    → IfOk r (λ a. StepsAlike event w (answer_of a) w2)
-agrees_by event w w2 (Ok a) agree steps = λ s shown. agree event w w2 s (answer_of a) shown steps
-agrees_by event w w2 (Err e) agree steps = tt
+pub agrees_by : {A : Type 0} (meaning : A → Answer) (event : Event) (w w2 : TheWorld) (r : Result A AllocError) → StepsAgree
+    → IfOk r (λ a. Steps event w (meaning a) w2) → IfOk r (λ a. StepsAlike event w (meaning a) w2)
+agrees_by meaning event w w2 (Ok a) agree steps = λ s shown. agree event w w2 s (meaning a) shown steps
+agrees_by meaning event w w2 (Err e) agree steps = tt
 
-pub kept_by : (w made w2 : TheWorld) (r : Result RustAnswer AllocError) → OnErr r (made ≡ w) → OnErr r (w2 ≡ made) → OnErr r (w2 ≡ w)
+pub kept_by : {A : Type 0} (w made w2 : TheWorld) (r : Result A AllocError) → OnErr r (made ≡ w) → OnErr r (w2 ≡ made) → OnErr r (w2 ≡ w)
 kept_by w made w2 (Ok a) same kept = tt
 kept_by w made w2 (Err e) same kept = kept ∙ same
 
 -- ---- the machine that a script runs on
 
-pub machine_steps : (event : Event) (w made w2 : TheWorld) (r : Result RustAnswer AllocError) → StepsAgree
-    → IfOk r (λ a. Does event w (answer_of a) made) → IfOk r (λ a. w2 ≡ settled event (answer_of a) made)
-    → IfOk r (λ a. machine.Steps Shows w w2 event (answer_of a))
-machine_steps event w made w2 r agree does rest =
-    steps_as event w w2 r (agrees_by event w w2 r agree (steps_by event w made w2 r does rest))
+pub machine_steps : {A : Type 0} (meaning : A → Answer) (event : Event) (w made w2 : TheWorld) (r : Result A AllocError) → StepsAgree
+    → IfOk r (λ a. Does event w (meaning a) made) → IfOk r (λ a. w2 ≡ settled event (meaning a) made)
+    → IfOk r (λ a. machine.Steps Shows w w2 event (meaning a))
+machine_steps meaning event w made w2 r agree does rest =
+    steps_as meaning event w w2 r (agrees_by meaning event w w2 r agree (steps_by meaning event w made w2 r does rest))
 
-pub machine_kept : (w made w2 : TheWorld) (r : Result RustAnswer AllocError) → OnErr r (made ≡ w) → OnErr r (w2 ≡ made)
+pub machine_kept : {A : Type 0} (w made w2 : TheWorld) (r : Result A AllocError) → OnErr r (made ≡ w) → OnErr r (w2 ≡ made)
     → OnErr r ((s : State) → Shows w s → Shows w2 s)
 machine_kept w made w2 r same kept = shows_still r w w2 (kept_by w made w2 r same kept)

@@ -8,8 +8,9 @@ use Rattle.fl_core.specs.BoardView.{TheBoard, due}
 use Rattle.fl_core.specs.declared.wiring.Inlet.{Inlet}
 use Rattle.fl_core.specs.View.{TheCore, place_of, inlet_of}
 use Rattle.fl_model.specs.Events.{DispatcherId, nothing}
-use Rattle.fl_model.specs.declared.answer.Answer.{Answer as RustAnswer}
-use Rattle.fl_model.specs.Views.{answer_of}
+use Rattle.fl_value_data.specs.Value.{TheCall}
+use Rattle.fl_model.specs.declared.answer.TurnedAnswer.{TurnedAnswer}
+use Rattle.fl_model.specs.Views.{turned_of}
 use Rattle.fl_world_refines.specs.View.{TheWorld, has_dispatcher}
 use Rattle.fl_world_refines.specs.Taking.{IsDue, TurnsAt, due_at, HasTurn}
 use Rattle.fl_world.specs.Places.{IsDueOver, TurnsFrom}
@@ -42,12 +43,14 @@ module _ (w : TheWorld) (d : DispatcherId) (k : TheCore) (is : slice_get w.cores
       pub is_due : IsDue w d e name i
       is_due = record { core = k; core_is = is; due_is = due_is; name_is = named; inlet_is = takes }
 
-      turns_at : (o : Result RustAnswer AllocError) (w2 : TheWorld) → IfOk o (λ a. TurnsFrom i d.core (record { dispatcher = d.place; end = e; name = name }) w (answer_of a) w2)
-          → IfOk o (λ a. TurnsAt d e w (answer_of a) w2)
-      turns_at (Err error) w2 h = tt
-      turns_at (Ok a) w2 h = (name, i, is_due, h)
+      turns_at : (o : Result TurnedAnswer AllocError) (call : TheCall) (w2 : TheWorld)
+          → IfOk o (λ a. TurnsFrom i d.core (record { dispatcher = d.place; end = e; name = name }) w (turned_of a call) w2)
+          → IfOk o (λ a. TurnsAt d e w (turned_of a call) w2)
+      turns_at (Err error) call w2 h = tt
+      turns_at (Ok a) call w2 h = (name, i, is_due, h)
 
-      pub turn_done : has_dispatcher w d ≡ true → (o : Result RustAnswer AllocError) (w2 : TheWorld)
-          → IfOk o (λ a. TurnsFrom i d.core (record { dispatcher = d.place; end = e; name = name }) w (answer_of a) w2) → IfOk o (λ a. HasTurn d w (answer_of a) w2)
-      turn_done has o w2 h =
-          IfOk-weaker o _ _ (λ a t. if_false _ _ _ (ap not has) (given_some _ _ _ e (board_due ∙ sym some) t)) (turns_at o w2 h)
+      pub turn_done : has_dispatcher w d ≡ true → (o : Result TurnedAnswer AllocError) (call : TheCall) (w2 : TheWorld)
+          → IfOk o (λ a. TurnsFrom i d.core (record { dispatcher = d.place; end = e; name = name }) w (turned_of a call) w2)
+          → IfOk o (λ a. HasTurn d w (turned_of a call) w2)
+      turn_done has o call w2 h =
+          IfOk-weaker o _ _ (λ a t. if_false _ _ _ (ap not has) (given_some _ _ _ e (board_due ∙ sym some) t)) (turns_at o call w2 h)

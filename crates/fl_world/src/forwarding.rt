@@ -5,7 +5,7 @@ ghost use Rattle.fl_base.specs.Control.{is_ack_only, with_circuit};
 ghost use Rattle.fl_world_refines.specs.View.{ring_at, location_of};
 ghost use Rattle.fl_world_refines.specs.Linking.{IsHeard, BringsRules, ThenRules};
 ghost use Rattle.fl_world_refines.specs.Linking.{HearsFirst, ForwardsBy, ForwardsFirst, Forwards};
-ghost use Rattle.fl_model.specs.Views.{answer_of};
+ghost use Rattle.fl_model.specs.Views.{brief_of};
 ghost use Rattle.fl_world_events.specs.Places.{HasEnd, HasLink, link_side_from};
 ghost use Rattle.fl_world_events.specs.Passing.{StandsAt};
 ghost use Rattle.fl_world.specs.Following.{KnowsAt, MayForgetAt, Forgot, MayFollow, Forgets, GoesOn, TakesRulesOrNone};
@@ -14,7 +14,7 @@ ghost use Rattle.fl_world.specs.Hearing.{WouldSay, SaysAhead, FindsMessage, Want
 use crate::world::World;
 use fl_base::{EndId, Frag, Side, faults};
 use fl_core::{LinkFront, LinkReceiveFault, MonitorAnswer};
-use fl_model::Answer;
+use fl_model::BriefAnswer;
 use fl_ring::law_forgets_looks;
 use fl_world_events::{
     EndLocation, ForwardFrag, LinkWithSide, answer_heard, answer_unheard, move_among, ring_at,
@@ -30,32 +30,32 @@ impl World {
     /// # Errors
     /// Out of memory, where a message is heard that makes a monitor say something.
     #[inline(never)]
-    pub(crate) fn forward(&mut self, core: u32, neighbour: u32) -> Result<Answer, AllocError>
-        ensures forwards { IfOk result (λ a. Forwards core neighbour self.old (answer_of a) self.new) }
+    pub(crate) fn forward(&mut self, core: u32, neighbour: u32) -> Result<BriefAnswer, AllocError>
+        ensures forwards { IfOk result (λ a. Forwards core neighbour self.old (brief_of a) self.new) }
         ensures kept { OnErr result (self.new ≡ self.old) }
         ensures last { OnErr result (WantsToSay core neighbour self.old) }
     {
         let Some(at) = self.link_side(core, neighbour) else {
-            return Ok(Answer::Refused(faults::NO_SUCH_ROUTE));
+            return Ok(BriefAnswer::Refused(faults::NO_SUCH_ROUTE));
         };
         let place = ring_at(at.side);
         if place >= self.rings.len() {
-            return Ok(Answer::Nothing);
+            return Ok(BriefAnswer::Nothing);
         }
         self.forward_first(core as usize, at)
     }
 
-    fn forward_first(&mut self, n: usize, at: LinkWithSide) -> Result<Answer, AllocError>
+    fn forward_first(&mut self, n: usize, at: LinkWithSide) -> Result<BriefAnswer, AllocError>
         requires link { HasLink self.old.cores n at.link.0 }
         requires ring { ring_at at.side < length self.old.rings }
-        ensures forwards { IfOk result (λ a. ForwardsFirst n (link_side_from at) self.old (answer_of a) self.new) }
+        ensures forwards { IfOk result (λ a. ForwardsFirst n (link_side_from at) self.old (brief_of a) self.new) }
         ensures kept { OnErr result (self.new ≡ self.old) }
         ensures last { OnErr result (FindsMessage n (link_side_from at) self.old) }
     {
         let known = self.known(at.side);
         law_forgets_looks();
         match self.look(n, at) {
-            Err(fault) => Ok(Answer::Refused(fault.number())),
+            Err(fault) => Ok(BriefAnswer::Refused(fault.number())),
             Ok(ahead) => self.follow(n, at, ahead, known),
         }
     }
@@ -75,17 +75,17 @@ impl World {
         at: LinkWithSide,
         ahead: LinkFront,
         known: u64,
-    ) -> Result<Answer, AllocError>
+    ) -> Result<BriefAnswer, AllocError>
         requires link { HasLink self.old.cores n at.link.0 }
         requires ring { ring_at at.side < length self.old.rings }
         requires seen { MayFollow ahead at.side known self.old.rings }
-        ensures forwards { IfOk result (λ a. ForwardsBy (Ok ahead) n (link_side_from at) self.old (answer_of a) self.new) }
+        ensures forwards { IfOk result (λ a. ForwardsBy (Ok ahead) n (link_side_from at) self.old (brief_of a) self.new) }
         ensures forgot { OnErr result (Forgets ahead self.old at.side known self.new) }
         ensures last { OnErr result (SaysAhead ahead n (link_side_from at) self.old) }
     {
         match ahead {
-            LinkFront::Nothing => Ok(Answer::Nothing),
-            LinkFront::Acknowledged => Ok(Answer::Done),
+            LinkFront::Nothing => Ok(BriefAnswer::Nothing),
+            LinkFront::Acknowledged => Ok(BriefAnswer::Done),
             LinkFront::Message(frag) => self.hear_first(n, at, &frag, known),
             LinkFront::Onward(frag, onto, circuit) => Ok(self.move_on(&ForwardFrag {
                 frag,
@@ -98,20 +98,20 @@ impl World {
     }
 
     // What stands first, and was seen, moves on.
-    fn move_on(&mut self, passing: &ForwardFrag) -> Answer
+    fn move_on(&mut self, passing: &ForwardFrag) -> BriefAnswer
         requires seen { StandsAt self.old.rings passing.now.from passing.now.frag }
         requires call { is_ack_only (with_circuit passing.now.circuit.0 passing.now.frag) ≡ false }
-        ensures goes { GoesOn passing.now self.old (answer_of result) self.new }
+        ensures goes { GoesOn passing.now self.old (brief_of result) self.new }
     {
         let (from, onto) = (ring_at(passing.from), ring_at(passing.onto));
         if from == onto {
-            return Answer::Nothing;
+            return BriefAnswer::Nothing;
         }
         if from >= self.rings.len() {
-            return Answer::Nothing;
+            return BriefAnswer::Nothing;
         }
         if onto >= self.rings.len() {
-            return Answer::Nothing;
+            return BriefAnswer::Nothing;
         }
         move_among(passing, &mut self.rings)
     }
@@ -124,12 +124,12 @@ impl World {
         at: LinkWithSide,
         frag: &Frag,
         known: u64,
-    ) -> Result<Answer, AllocError>
+    ) -> Result<BriefAnswer, AllocError>
         requires link { HasLink self.old.cores n at.link.0 }
         requires ring { ring_at at.side < length self.old.rings }
         requires seen { StandsAt self.old.rings at.side frag.now }
         requires known { MayForgetAt self.old.rings at.side known }
-        ensures hears { IfOk result (λ a. HearsFirst n (link_side_from at) frag.now self.old (answer_of a) self.new) }
+        ensures hears { IfOk result (λ a. HearsFirst n (link_side_from at) frag.now self.old (brief_of a) self.new) }
         ensures forgot { OnErr result (Forgot self.old at.side known self.new) }
         ensures last { OnErr result (WouldSay n at.link frag.now LinkReceiveFault.Memory self.old) }
     {
@@ -143,10 +143,15 @@ impl World {
     }
 
     // A message isn't heard. Where memory is refused the side knows what it knew before the look.
-    fn leave(&mut self, m: usize, fault: LinkReceiveFault, known: u64) -> Result<Answer, AllocError>
+    fn leave(
+        &mut self,
+        m: usize,
+        fault: LinkReceiveFault,
+        known: u64,
+    ) -> Result<BriefAnswer, AllocError>
         requires ring { ring_at m < length self.old.rings }
         requires known { fault ≡ LinkReceiveFault.Memory → MayForgetAt self.old.rings m known }
-        ensures heard { IfOk result (λ a. IsHeard (Err fault) (answer_of a)) }
+        ensures heard { IfOk result (λ a. IsHeard (Err fault) (brief_of a)) }
         ensures same { OnOk result (self.new ≡ self.old) }
         ensures memory { OnErr result (fault ≡ LinkReceiveFault.Memory) }
         ensures forgot { OnErr result (Forgot self.old m known self.new) }

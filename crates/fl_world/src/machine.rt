@@ -4,7 +4,7 @@ ghost use Rattle.fl_world_refines.specs.ShowsState.{Shows};
 
 use crate::world::World;
 use fl_base::EndId;
-use fl_model::{Answer, DispatcherId, Event, Machine};
+use fl_model::{Answer, BriefAnswer, DispatcherId, Event, Machine, TurnedAnswer};
 use fl_value_data::Call;
 use fl_world_refines::{law_fresh_world_shows, law_steps_agree};
 use std::alloc::{AllocError, Global};
@@ -23,26 +23,30 @@ impl Machine for World {
 
     // Events that scripts repeat are done by themselves, so that none prepares what another needs.
     #[inline(always)]
-    fn step_call(&mut self, end: EndId, call: &Call) -> Result<Answer, AllocError> {
+    fn step_call(&mut self, end: EndId, call: &Call) -> Result<BriefAnswer, AllocError> {
         law_steps_agree();
         let outcome = self.call(end, call);
-        self.close_by(&outcome);
+        self.close_brief_by(outcome);
         outcome
     }
 
     #[inline(always)]
-    fn step_write(&mut self, end: EndId) -> Result<Answer, AllocError> {
+    fn step_write(&mut self, end: EndId) -> Result<BriefAnswer, AllocError> {
         law_steps_agree();
         let answer = self.write(end);
-        self.close(&answer);
+        self.close_brief(answer);
         Ok(answer)
     }
 
     #[inline(always)]
-    fn step_turn(&mut self, dispatcher: DispatcherId) -> Result<Answer, AllocError> {
+    fn step_turn(
+        &mut self,
+        dispatcher: DispatcherId,
+        handled: &mut Call,
+    ) -> Result<TurnedAnswer, AllocError> {
         law_steps_agree();
-        let outcome = self.turn(dispatcher);
-        self.close_by(&outcome);
+        let outcome = self.turn(dispatcher, handled);
+        self.close_turned_by(outcome);
         outcome
     }
 
@@ -55,18 +59,18 @@ impl Machine for World {
     }
 
     #[inline(always)]
-    fn step_ack(&mut self, end: EndId) -> Result<Answer, AllocError> {
+    fn step_ack(&mut self, end: EndId) -> Result<BriefAnswer, AllocError> {
         law_steps_agree();
         let answer = self.ack(end);
-        self.close(&answer);
+        self.close_brief(answer);
         Ok(answer)
     }
 
     #[inline(always)]
-    fn step_forward(&mut self, core: u32, neighbour: u32) -> Result<Answer, AllocError> {
+    fn step_forward(&mut self, core: u32, neighbour: u32) -> Result<BriefAnswer, AllocError> {
         law_steps_agree();
         let outcome = self.forward(core, neighbour);
-        self.close_by(&outcome);
+        self.close_brief_by(outcome);
         outcome
     }
 }

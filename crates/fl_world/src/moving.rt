@@ -5,7 +5,7 @@ ghost use Rattle.fl_base.specs.Control.{is_ack_only, with_circuit};
 ghost use Rattle.fl_world_refines.specs.View.{ring_at};
 ghost use Rattle.fl_world_refines.specs.Lending.{OverSide};
 ghost use Rattle.fl_world_refines.specs.Linking.{LooksWith, incoming, HearsWith, ArrivesWith, offers_in};
-ghost use Rattle.fl_model.specs.Views.{answer_of};
+ghost use Rattle.fl_model.specs.Views.{brief_of};
 ghost use Rattle.fl_world_events.specs.Places.{HasLink};
 ghost use Rattle.fl_world_events.specs.Passing.{StandsAt};
 ghost use Rattle.fl_core.specs.Links.{inbound};
@@ -14,7 +14,7 @@ ghost use Rattle.fl_world.specs.Hearing.{WouldSay};
 use crate::world::World;
 use fl_base::{EndId, Frag};
 use fl_core::{LinkFront, LinkReceiveFault, MonitorAnswer};
-use fl_model::Answer;
+use fl_model::BriefAnswer;
 use fl_world_events::{LinkWithSide, arrive_by_ring, hear_by_ring, look_by_ring, ring_at};
 
 // ---- in a world
@@ -33,12 +33,18 @@ impl World {
     // What stands first, and was seen, arrives for an end of the core. In line, as all that makes a forward's answer: from a function
     // out of line it is moved on, and each move waits for the stores of the one before.
     #[inline(always)]
-    pub(crate) fn arrive(&mut self, n: usize, at: LinkWithSide, frag: &Frag, name: EndId) -> Answer
+    pub(crate) fn arrive(
+        &mut self,
+        n: usize,
+        at: LinkWithSide,
+        frag: &Frag,
+        name: EndId,
+    ) -> BriefAnswer
         requires link { HasLink self.old.cores n at.link.0 }
         requires ring { ring_at at.side < length self.old.rings }
         requires seen { StandsAt self.old.rings at.side frag.now }
         requires call { is_ack_only (with_circuit 0 frag.now) ≡ false }
-        ensures arrives { OverSide self.old n at.side (ArrivesWith (inbound at.link.0 frag.now name) (answer_of result)) self.new }
+        ensures arrives { OverSide self.old n at.side (ArrivesWith (inbound at.link.0 frag.now name) (brief_of result)) self.new }
     {
         let ring = &mut self.rings[ring_at(at.side)];
         arrive_by_ring(&mut self.cores[n], at, ring, frag, name)

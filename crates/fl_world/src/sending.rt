@@ -4,7 +4,7 @@ ghost use Rattle.std.specs.Prelude.{◌≡◌, ◌<◌, length, slice_get, Some,
 ghost use Rattle.fl_value_data.specs.Value.{call_of};
 ghost use Rattle.fl_core.specs.View.{TheCore};
 ghost use Rattle.fl_world_refines.specs.Sending.{MakesCall, PreviewsOver, Previews, HasOutlet, WritesFragment};
-ghost use Rattle.fl_model.specs.Views.{answer_of};
+ghost use Rattle.fl_model.specs.Views.{answer_of, brief_of};
 ghost use Rattle.fl_world_events.specs.Places.{HasEnd};
 ghost use Rattle.fl_world_events.specs.Last.{NotRefused};
 ghost use Rattle.fl_world_events.specs.Parts.{CallsWith};
@@ -13,7 +13,7 @@ ghost use Rattle.fl_world.specs.Parts.{AtUnmadeOrNone};
 use crate::world::World;
 use fl_base::{EndId, faults};
 use fl_core::Outlet;
-use fl_model::Answer;
+use fl_model::{Answer, BriefAnswer};
 use fl_value_data::Call;
 use fl_world_events::{
     EndLocation, call_in, call_kept, ring_at, show_by_queue, show_by_ring, write_by_queue,
@@ -29,13 +29,13 @@ impl World {
     /// # Errors
     /// Out of memory.
     #[inline(always)]
-    pub(crate) fn call(&mut self, e: EndId, call: &Call) -> Result<Answer, AllocError>
-        ensures calls { IfOk result (λ a. MakesCall e (call_of call.now) self.old (answer_of a) self.new) }
+    pub(crate) fn call(&mut self, e: EndId, call: &Call) -> Result<BriefAnswer, AllocError>
+        ensures calls { IfOk result (λ a. MakesCall e (call_of call.now) self.old (brief_of a) self.new) }
         ensures kept { OnErr result (self.new ≡ self.old) }
         ensures last { OnErr result (NotRefused (MakesCall e (call_of call.now) self.old)) }
     {
         match self.location(e) {
-            EndLocation::Nowhere => Ok(Answer::Refused(faults::WRONG_NAME)),
+            EndLocation::Nowhere => Ok(BriefAnswer::Refused(faults::WRONG_NAME)),
             EndLocation::Unmade => self.call_unmade(e.binding, call),
             EndLocation::Made(n, place) => call_in(&mut self.cores[n], place, call),
         }
@@ -43,9 +43,9 @@ impl World {
 
     // In line, though it is seldom: an answer from out of line would lie in memory, and with it the usual one.
     #[inline(always)]
-    fn call_unmade(&mut self, n: usize, call: &Call) -> Result<Answer, AllocError>
+    fn call_unmade(&mut self, n: usize, call: &Call) -> Result<BriefAnswer, AllocError>
         requires binding { n < length self.old.bindings }
-        ensures calls { IfOk result (λ a. AtUnmadeOrNone self.old n (CallsWith (call_of call.now) (answer_of a)) (answer_of a) self.new) }
+        ensures calls { IfOk result (λ a. AtUnmadeOrNone self.old n (CallsWith (call_of call.now) (brief_of a)) (brief_of a) self.new) }
         ensures kept { OnErr result (self.new ≡ self.old) }
         ensures last { OnErr result (NotRefused (λ a w. AtUnmadeOrNone self.old n (CallsWith (call_of call.now) a) a w)) }
     {
@@ -108,19 +108,19 @@ impl World {
 impl World {
     /// An end writes its next fragment.
     #[inline(always)]
-    pub(crate) fn write(&mut self, e: EndId) -> Answer
-        ensures writes { WritesFragment e self.old (answer_of result) self.new }
+    pub(crate) fn write(&mut self, e: EndId) -> BriefAnswer
+        ensures writes { WritesFragment e self.old (brief_of result) self.new }
     {
         match self.location(e) {
-            EndLocation::Nowhere => Answer::Refused(faults::WRONG_NAME),
-            EndLocation::Unmade => Answer::Refused(faults::NOT_BOUND),
+            EndLocation::Nowhere => BriefAnswer::Refused(faults::WRONG_NAME),
+            EndLocation::Unmade => BriefAnswer::Refused(faults::NOT_BOUND),
             EndLocation::Made(n, place) => match self.outlet(n, place) {
                 Outlet::Queue(q) => match self.queues.get_mut(q) {
-                    None => Answer::Nothing,
+                    None => BriefAnswer::Nothing,
                     Some(queue) => write_by_queue(&mut self.cores[n], place, queue),
                 },
                 Outlet::Side(m) => match self.rings.get_mut(ring_at(m)) {
-                    None => Answer::Nothing,
+                    None => BriefAnswer::Nothing,
                     Some(ring) => write_by_ring(&mut self.cores[n], place, ring, m),
                 },
             },

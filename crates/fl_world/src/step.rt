@@ -1,15 +1,24 @@
 //! Whatever event is asked: one step of the machine, and many.
 
 ghost use Rattle.std.specs.Prelude.{◌≡◌, true, map, is_some, IfOk, OnErr};
-ghost use Rattle.fl_model.specs.Views.{event_of, answer_of};
+ghost use Rattle.fl_value_data.specs.Value.{TheCall, call_of};
+ghost use Rattle.fl_model.specs.Views.{event_of, answer_of, brief_of, turned_of, id_of};
 ghost use Rattle.fl_model.specs.State.{State};
 ghost use Rattle.fl_world_refines.specs.ShowsState.{Shows};
 ghost use Rattle.fl_world_refines.specs.Step.{Does, settled, settled_by, Steps};
+ghost use Rattle.fl_world_refines.specs.Sending.{MakesCall};
+ghost use Rattle.fl_world_refines.specs.Taking.{HasTurn};
+ghost use Rattle.fl_world_refines.specs.Linking.{Forwards};
+ghost use Rattle.fl_world_events.specs.Last.{NotRefused};
+ghost use Rattle.fl_world.specs.Handling.{WantsToHandle};
+ghost use Rattle.fl_world.specs.Hearing.{WantsToSay};
 ghost use Rattle.fl_world.specs.Stepping.{StepsAlike, may_want_memory, fault_in, is_interface};
 ghost use Rattle.fl_world.specs.Stepping.{WantsMemory, RunsAlike, ShowsAfterSome};
 
 use crate::world::World;
-use fl_model::{Answer, Event};
+use fl_base::{EndId, MsgNo};
+use fl_model::{Answer, BriefAnswer, DispatcherId, Event, TurnedAnswer};
+use fl_value_data::Call;
 use fl_world_refines::law_steps_agree;
 use std::alloc::AllocError;
 
@@ -27,6 +36,71 @@ fn is_refused(answer: &Answer) -> bool
 {
     matches!(answer, Answer::Refused(_))
 }
+
+// The same of an answer in brief.
+#[inline(always)]
+fn is_brief_refused(answer: BriefAnswer) -> bool
+    ensures refused { result ≡ is_some (fault_in (brief_of answer)) }
+{
+    matches!(answer, BriefAnswer::Refused(_))
+}
+
+// The same of a turn's answer.
+#[inline(always)]
+fn is_turn_refused(answer: TurnedAnswer) -> bool
+    ensures refused { (call : TheCall) → result ≡ is_some (fault_in (turned_of answer call)) }
+{
+    matches!(answer, TurnedAnswer::Refused(_))
+}
+
+// ---- answers that events give in brief
+
+impl World {
+    // A call that an end makes.
+    #[inline(never)]
+    fn call_whole(&mut self, end: EndId, call: &Call) -> Result<Answer, AllocError>
+        ensures calls { IfOk result (λ a. MakesCall end (call_of call.now) self.old (answer_of a) self.new) }
+        ensures kept { OnErr result (self.new ≡ self.old) }
+        ensures last { OnErr result (NotRefused (MakesCall end (call_of call.now) self.old)) }
+    {
+        match self.call(end, call) {
+            Ok(answer) => Ok(answer.whole()),
+            Err(error) => Err(error),
+        }
+    }
+
+    // A turn, with the call that it handled.
+    #[inline(never)]
+    fn turn_whole(&mut self, dispatcher: DispatcherId) -> Result<Answer, AllocError>
+        ensures turns { IfOk result (λ a. HasTurn (id_of dispatcher) self.old (answer_of a) self.new) }
+        ensures kept { OnErr result (self.new ≡ self.old) }
+        ensures last { OnErr result (WantsToHandle (id_of dispatcher) self.old) }
+    {
+        let mut handled = Call {
+            msg: MsgNo(0),
+            args: Vec::new(self.alloc),
+        };
+        match self.turn(dispatcher, &mut handled) {
+            Ok(answer) => Ok(answer.whole(handled)),
+            Err(error) => Err(error),
+        }
+    }
+
+    // What stands first on a link is forwarded.
+    #[inline(never)]
+    fn forward_whole(&mut self, core: u32, neighbour: u32) -> Result<Answer, AllocError>
+        ensures forwards { IfOk result (λ a. Forwards core neighbour self.old (answer_of a) self.new) }
+        ensures kept { OnErr result (self.new ≡ self.old) }
+        ensures last { OnErr result (WantsToSay core neighbour self.old) }
+    {
+        match self.forward(core, neighbour) {
+            Ok(answer) => Ok(answer.whole()),
+            Err(error) => Err(error),
+        }
+    }
+}
+
+// ---- any event
 
 impl World {
     // What the event does. Most kinds of event are functions out of line, so that none prepares what another needs; a call, a write and
@@ -53,11 +127,11 @@ impl World {
                 service,
                 back_end,
             } => self.bind(*client, *interface, service, *back_end),
-            Event::Call(end, call) => self.call(*end, call),
+            Event::Call(end, call) => self.call_whole(*end, call),
             Event::Show(end) => Ok(self.show(*end)),
-            Event::Write(end) => Ok(self.write(*end)),
-            Event::Turn(dispatcher) => self.turn(*dispatcher),
-            Event::Ack(end) => Ok(self.ack(*end)),
+            Event::Write(end) => Ok(self.write(*end).whole()),
+            Event::Turn(dispatcher) => self.turn_whole(*dispatcher),
+            Event::Ack(end) => Ok(self.ack(*end).whole()),
             Event::Register(end) => Ok(self.register(*end)),
             Event::Deregister(end) => Ok(self.deregister(*end)),
             Event::Reply {
@@ -66,7 +140,7 @@ impl World {
                 answer,
             } => Ok(self.reply(*end, *message, *answer)),
             Event::MonitorWrite { core, neighbour } => Ok(self.monitor_write(*core, *neighbour)),
-            Event::Forward { core, neighbour } => self.forward(*core, *neighbour),
+            Event::Forward { core, neighbour } => self.forward_whole(*core, *neighbour),
             Event::MonitorAck { core, neighbour } => { Ok(self.monitor_ack(*core, *neighbour)) }
         }
     }
@@ -80,6 +154,50 @@ impl World {
             return;
         }
         self.may_set_cores = false;
+    }
+
+    // The same after an answer in brief.
+    #[inline(always)]
+    pub(crate) fn close_brief(&mut self, answer: BriefAnswer)
+        ensures closed { self.new ≡ settled_by (brief_of answer) self.old }
+    {
+        if is_brief_refused(answer) {
+            return;
+        }
+        self.may_set_cores = false;
+    }
+
+    // The same for what an event that is answered in brief came to.
+    #[inline(always)]
+    pub(crate) fn close_brief_by(&mut self, outcome: Result<BriefAnswer, AllocError>)
+        ensures closed { IfOk outcome (λ a. self.new ≡ settled_by (brief_of a) self.old) }
+        ensures kept { OnErr outcome (self.new ≡ self.old) }
+    {
+        if let Ok(answer) = outcome {
+            self.close_brief(answer);
+        }
+    }
+
+    // The same after a turn's answer, whatever call was handled.
+    #[inline(always)]
+    fn close_turned(&mut self, answer: TurnedAnswer)
+        ensures closed { (call : TheCall) → self.new ≡ settled_by (turned_of answer call) self.old }
+    {
+        if is_turn_refused(answer) {
+            return;
+        }
+        self.may_set_cores = false;
+    }
+
+    // The same for what a turn came to.
+    #[inline(always)]
+    pub(crate) fn close_turned_by(&mut self, outcome: Result<TurnedAnswer, AllocError>)
+        ensures closed { IfOk outcome (λ a. (call : TheCall) → self.new ≡ settled_by (turned_of a call) self.old) }
+        ensures kept { OnErr outcome (self.new ≡ self.old) }
+    {
+        if let Ok(answer) = outcome {
+            self.close_turned(answer);
+        }
     }
 
     // The same for what an event came to, where it lies: an answer is large to move.

@@ -6,7 +6,8 @@ ghost use Rattle.fl_world_refines.specs.Lending.{answer_at};
 ghost use Rattle.fl_world_refines.specs.Taking.{HasTurn, AcksOver, Acknowledges, HasInlet};
 ghost use Rattle.fl_world_refines.specs.Taking.{RegistersOver, RegistersChannel};
 ghost use Rattle.fl_world_refines.specs.Taking.{DeregistersChannel, SetsReply};
-ghost use Rattle.fl_model.specs.Views.{answer_of, id_of};
+ghost use Rattle.fl_model.specs.Views.{answer_of, brief_of, turned_of, id_of};
+ghost use Rattle.fl_value_data.specs.Value.{call_of};
 ghost use Rattle.fl_world_events.specs.Places.{HasEnd};
 ghost use Rattle.fl_world.specs.Handling.{HandlesFrom, WantsToHandle};
 ghost use Rattle.fl_world.specs.Places.{IsDueOver, TurnsFrom};
@@ -14,7 +15,8 @@ ghost use Rattle.fl_world.specs.Places.{IsDueOver, TurnsFrom};
 use crate::world::World;
 use fl_base::{EndId, MsgNo, faults};
 use fl_core::Inlet;
-use fl_model::{Answer, DispatcherId};
+use fl_model::{Answer, BriefAnswer, DispatcherId, TurnedAnswer};
+use fl_value_data::Call;
 use fl_world_events::{
     DueEnd, EndLocation, ack_by_ring, deregister_in, register_by_queue, register_by_ring,
     register_in, ring_at, rule_in, rule_kept, tell_nothing, turn_by_queue, turn_by_ring, turn_in,
@@ -29,20 +31,24 @@ impl World {
     /// # Errors
     /// Out of memory, only where it would handle a call.
     #[inline(always)]
-    pub(crate) fn turn(&mut self, d: DispatcherId) -> Result<Answer, AllocError>
-        ensures turns { IfOk result (λ a. HasTurn (id_of d) self.old (answer_of a) self.new) }
+    pub(crate) fn turn(
+        &mut self,
+        d: DispatcherId,
+        handled: &mut Call,
+    ) -> Result<TurnedAnswer, AllocError>
+        ensures turns { IfOk result (λ a. HasTurn (id_of d) self.old (turned_of a (call_of handled.new)) self.new) }
         ensures kept { OnErr result (self.new ≡ self.old) }
         ensures last { OnErr result (WantsToHandle (id_of d) self.old) }
     {
         let Some(core) = self.cores.get(d.core as usize) else {
-            return Ok(Answer::Refused(faults::WRONG_NAME));
+            return Ok(TurnedAnswer::Refused(faults::WRONG_NAME));
         };
         let board = core.board();
         if d.place >= board.dispatchers() {
-            return Ok(Answer::Refused(faults::WRONG_NAME));
+            return Ok(TurnedAnswer::Refused(faults::WRONG_NAME));
         }
         let Some(e) = board.due(d.place) else {
-            return Ok(Answer::Nothing);
+            return Ok(TurnedAnswer::Nothing);
         };
         let n = d.core as usize;
         let at = DueEnd {
@@ -51,47 +57,64 @@ impl World {
             name: core.name(e),
         };
         match core.inlet(e) {
-            Inlet::Queue(q) => self.turn_over_queue(n, at, q),
-            Inlet::Side(m) => self.turn_over_side(n, at, m),
-            Inlet::Arrivals => self.turn_over_arrivals(n, at),
+            Inlet::Queue(q) => self.turn_over_queue(n, at, q, handled),
+            Inlet::Side(m) => self.turn_over_side(n, at, m, handled),
+            Inlet::Arrivals => self.turn_over_arrivals(n, at, handled),
         }
     }
 
     #[inline(never)]
-    fn turn_over_queue(&mut self, n: usize, at: DueEnd, q: usize) -> Result<Answer, AllocError>
+    fn turn_over_queue(
+        &mut self,
+        n: usize,
+        at: DueEnd,
+        q: usize,
+        handled: &mut Call,
+    ) -> Result<TurnedAnswer, AllocError>
         requires due { IsDueOver self.old.cores n at (Inlet.Queue q) }
-        ensures turns { IfOk result (λ a. TurnsFrom (Inlet.Queue q) n at self.old (answer_of a) self.new) }
+        ensures turns { IfOk result (λ a. TurnsFrom (Inlet.Queue q) n at self.old (turned_of a (call_of handled.new)) self.new) }
         ensures kept { OnErr result (self.new ≡ self.old) }
         ensures wants { OnErr result (HandlesFrom (Inlet.Queue q) n at self.old) }
     {
         match self.queues.get_mut(q) {
-            None => Ok(Answer::Nothing),
-            Some(queue) => turn_by_queue(&mut self.cores[n], at, queue),
+            None => Ok(TurnedAnswer::Nothing),
+            Some(queue) => turn_by_queue(&mut self.cores[n], at, queue, handled),
         }
     }
 
     #[inline(never)]
-    fn turn_over_side(&mut self, n: usize, at: DueEnd, m: usize) -> Result<Answer, AllocError>
+    fn turn_over_side(
+        &mut self,
+        n: usize,
+        at: DueEnd,
+        m: usize,
+        handled: &mut Call,
+    ) -> Result<TurnedAnswer, AllocError>
         requires due { IsDueOver self.old.cores n at (Inlet.Side m) }
-        ensures turns { IfOk result (λ a. TurnsFrom (Inlet.Side m) n at self.old (answer_of a) self.new) }
+        ensures turns { IfOk result (λ a. TurnsFrom (Inlet.Side m) n at self.old (turned_of a (call_of handled.new)) self.new) }
         ensures kept { OnErr result (self.new ≡ self.old) }
         ensures wants { OnErr result (HandlesFrom (Inlet.Side m) n at self.old) }
     {
         match self.rings.get_mut(ring_at(m)) {
-            None => Ok(Answer::Nothing),
-            Some(ring) => turn_by_ring(&mut self.cores[n], at, ring, m),
+            None => Ok(TurnedAnswer::Nothing),
+            Some(ring) => turn_by_ring(&mut self.cores[n], at, ring, m, handled),
         }
     }
 
     #[inline(never)]
-    fn turn_over_arrivals(&mut self, n: usize, at: DueEnd) -> Result<Answer, AllocError>
+    fn turn_over_arrivals(
+        &mut self,
+        n: usize,
+        at: DueEnd,
+        handled: &mut Call,
+    ) -> Result<TurnedAnswer, AllocError>
         requires due { IsDueOver self.old.cores n at Inlet.Arrivals }
-        ensures turns { IfOk result (λ a. TurnsFrom Inlet.Arrivals n at self.old (answer_of a) self.new) }
+        ensures turns { IfOk result (λ a. TurnsFrom Inlet.Arrivals n at self.old (turned_of a (call_of handled.new)) self.new) }
         ensures kept { OnErr result (self.new ≡ self.old) }
         ensures wants { OnErr result (HandlesFrom Inlet.Arrivals n at self.old) }
     {
         let core = &mut self.cores[n];
-        turn_in(core, at)
+        turn_in(core, at, handled)
     }
 }
 
@@ -100,12 +123,12 @@ impl World {
 impl World {
     /// An end tells what was taken at its ring.
     #[inline(never)]
-    pub(crate) fn ack(&mut self, e: EndId) -> Answer
-        ensures acks { Acknowledges e self.old (answer_of result) self.new }
+    pub(crate) fn ack(&mut self, e: EndId) -> BriefAnswer
+        ensures acks { Acknowledges e self.old (brief_of result) self.new }
     {
         match self.location(e) {
-            EndLocation::Nowhere => Answer::Refused(faults::WRONG_NAME),
-            EndLocation::Unmade => Answer::Refused(faults::NOT_BOUND),
+            EndLocation::Nowhere => BriefAnswer::Refused(faults::WRONG_NAME),
+            EndLocation::Unmade => BriefAnswer::Refused(faults::NOT_BOUND),
             EndLocation::Made(n, place) => {
                 let core = &self.cores[n];
                 match core.inlet(place) {
@@ -117,13 +140,13 @@ impl World {
         }
     }
 
-    fn ack_over_side(&mut self, n: usize, place: usize, m: usize) -> Answer
+    fn ack_over_side(&mut self, n: usize, place: usize, m: usize) -> BriefAnswer
         requires end { HasEnd self.old.cores n place }
         requires inlet { HasInlet self.old n place (Inlet.Side m) }
-        ensures acks { (k : TheCore) → AcksOver (Inlet.Side m) k n (answer_at place (answer_of result)) self.old self.new }
+        ensures acks { (k : TheCore) → AcksOver (Inlet.Side m) k n (answer_at place (brief_of result)) self.old self.new }
     {
         let Some(ring) = self.rings.get_mut(ring_at(m)) else {
-            return Answer::Nothing;
+            return BriefAnswer::Nothing;
         };
         ack_by_ring(&self.cores[n], place, ring, m)
     }

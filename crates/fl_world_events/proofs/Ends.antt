@@ -20,16 +20,16 @@ use Rattle.fl_world_refines.specs.declared.binding.Binding.{Binding}
 use Rattle.fl_world_refines.specs.View.{which_at}
 use Rattle.fl_world_refines.specs.Sending.{IsCalled, IsShown, PreviewsWith}
 use Rattle.fl_world_refines.specs.Taking.{IsRuled, TellsNothing}
-use Rattle.fl_model.specs.declared.answer.Answer.{Answer as RustAnswer}
-use Rattle.fl_model.specs.Views.{answer_of}
+use Rattle.fl_model.specs.declared.answer.BriefAnswer.{BriefAnswer}
+use Rattle.fl_model.specs.Views.{brief_of}
 use Rattle.fl_world_events.specs.Parts.{KeptOrNone, CallsWith, RulesWith}
 
 -- the end that a binding keeps makes a call
 pub called_kept : (c : TheCall) (b : Binding) (s t : TheEnd) → b.unmade ≡ Some s → (o : Result (Unit {0}) EndFault) → Calls s c o t
-    → (r : Result RustAnswer AllocError) → IfOk r (λ a. IsCalled o (answer_of a))
-    → IfOk r (λ a. KeptOrNone (CallsWith c (answer_of a)) (answer_of a) b (record b { unmade = Some t }))
+    → (r : Result BriefAnswer AllocError) → IfOk r (λ a. IsCalled o (brief_of a))
+    → IfOk r (λ a. KeptOrNone (CallsWith c (brief_of a)) (brief_of a) b (record b { unmade = Some t }))
 called_kept c b s t is o calls r h =
-    IfOk-weaker r (λ a. IsCalled o (answer_of a)) (λ a. KeptOrNone (CallsWith c (answer_of a)) (answer_of a) b (record b { unmade = Some t }))
+    IfOk-weaker r (λ a. IsCalled o (brief_of a)) (λ a. KeptOrNone (CallsWith c (brief_of a)) (brief_of a) b (record b { unmade = Some t }))
     (λ a called. inl (record { before = s; before_is = is; after = t; event = (o, calls, called); rest = refl })) h
 
 -- it gets a rule

@@ -6,7 +6,7 @@ ghost use Rattle.fl_endpoint.specs.View.{interface_in};
 ghost use Rattle.fl_core.specs.BoardEvents.{Holds};
 ghost use Rattle.fl_world_refines.specs.View.{ring_at};
 ghost use Rattle.fl_world_refines.specs.Linking.{IsHeard};
-ghost use Rattle.fl_model.specs.Views.{answer_of};
+ghost use Rattle.fl_model.specs.Views.{brief_of};
 ghost use Rattle.fl_world_events.specs.Parts.{InCore};
 ghost use Rattle.fl_world_events.specs.Passing.{StandsAt, PassesOver};
 ghost use Rattle.fl_world_events.specs.Following.{TakesRulesOf, TakesKept};
@@ -15,7 +15,7 @@ use crate::lending::{law_whole, ring_at};
 use crate::moving::{ForwardFrag, move_between};
 use fl_core::{Core, LinkReceiveFault, MonitorAnswer};
 use fl_endpoint::End;
-use fl_model::Answer;
+use fl_model::BriefAnswer;
 use fl_ring::OneDuo;
 use fl_world_refines::Binding;
 use std::alloc::AllocError;
@@ -23,14 +23,14 @@ use std::alloc::AllocError;
 // ---- a message is heard
 
 /// What is answered for a message that is heard.
-pub fn answer_heard(answer: MonitorAnswer) -> Answer
-    ensures heard { IsHeard (Ok answer) (answer_of result) }
+pub fn answer_heard(answer: MonitorAnswer) -> BriefAnswer
+    ensures heard { IsHeard (Ok answer) (brief_of result) }
 {
     match answer {
-        MonitorAnswer::Full => Answer::Full,
-        MonitorAnswer::Done => Answer::Done,
-        MonitorAnswer::Opened(end) => Answer::Opened(end),
-        MonitorAnswer::OpeningRefused(end, number) => Answer::OpeningRefused { number, end },
+        MonitorAnswer::Full => BriefAnswer::Full,
+        MonitorAnswer::Done => BriefAnswer::Done,
+        MonitorAnswer::Opened(end) => BriefAnswer::Opened(end),
+        MonitorAnswer::OpeningRefused(end, number) => BriefAnswer::OpeningRefused { number, end },
     }
 }
 
@@ -38,13 +38,13 @@ pub fn answer_heard(answer: MonitorAnswer) -> Answer
 ///
 /// # Errors
 /// Out of memory.
-pub fn answer_unheard(fault: LinkReceiveFault) -> Result<Answer, AllocError>
-    ensures heard { IfOk result (λ a. IsHeard (Err fault) (answer_of a)) }
+pub fn answer_unheard(fault: LinkReceiveFault) -> Result<BriefAnswer, AllocError>
+    ensures heard { IfOk result (λ a. IsHeard (Err fault) (brief_of a)) }
     ensures memory { OnErr result (fault ≡ LinkReceiveFault.Memory) }
 {
     match fault {
         LinkReceiveFault::Memory => Err(AllocError),
-        _ => Ok(Answer::Refused(fault.number())),
+        _ => Ok(BriefAnswer::Refused(fault.number())),
     }
 }
 
@@ -110,12 +110,12 @@ pub fn take_rules_of(core: &mut Core, place: usize, binding: &mut Binding)
 
 // It moves onto a ring behind the one that it comes from, in the order of the rings.
 #[inline(always)]
-fn move_up(passing: &ForwardFrag, rings: &mut [OneDuo]) -> Answer
+fn move_up(passing: &ForwardFrag, rings: &mut [OneDuo]) -> BriefAnswer
     requires up { ring_at passing.now.from < ring_at passing.now.onto }
     requires onto { ring_at passing.now.onto < length rings.old }
     requires seen { StandsAt rings.old passing.now.from passing.now.frag }
     requires call { is_ack_only (with_circuit passing.now.circuit.0 passing.now.frag) ≡ false }
-    ensures passes { PassesOver passing.now rings.old (answer_of result) rings.new }
+    ensures passes { PassesOver passing.now rings.old (brief_of result) rings.new }
 {
     let (low, high) = rings.split_at_mut(ring_at(passing.onto));
     move_between(passing, &mut low[ring_at(passing.from)], &mut high[0])
@@ -123,12 +123,12 @@ fn move_up(passing: &ForwardFrag, rings: &mut [OneDuo]) -> Answer
 
 // It moves onto a ring before it.
 #[inline(always)]
-fn move_down(passing: &ForwardFrag, rings: &mut [OneDuo]) -> Answer
+fn move_down(passing: &ForwardFrag, rings: &mut [OneDuo]) -> BriefAnswer
     requires down { ring_at passing.now.onto < ring_at passing.now.from }
     requires from { ring_at passing.now.from < length rings.old }
     requires seen { StandsAt rings.old passing.now.from passing.now.frag }
     requires call { is_ack_only (with_circuit passing.now.circuit.0 passing.now.frag) ≡ false }
-    ensures passes { PassesOver passing.now rings.old (answer_of result) rings.new }
+    ensures passes { PassesOver passing.now rings.old (brief_of result) rings.new }
 {
     let (low, high) = rings.split_at_mut(ring_at(passing.from));
     move_between(passing, &mut high[0], &mut low[ring_at(passing.onto)])
@@ -136,13 +136,13 @@ fn move_down(passing: &ForwardFrag, rings: &mut [OneDuo]) -> Answer
 
 /// A fragment moves on, from one of the world's rings onto another.
 #[inline(always)]
-pub fn move_among(passing: &ForwardFrag, rings: &mut [OneDuo]) -> Answer
+pub fn move_among(passing: &ForwardFrag, rings: &mut [OneDuo]) -> BriefAnswer
     requires apart { ring_at passing.now.from ≢ ring_at passing.now.onto }
     requires from { ring_at passing.now.from < length rings.old }
     requires onto { ring_at passing.now.onto < length rings.old }
     requires seen { StandsAt rings.old passing.now.from passing.now.frag }
     requires call { is_ack_only (with_circuit passing.now.circuit.0 passing.now.frag) ≡ false }
-    ensures passes { PassesOver passing.now rings.old (answer_of result) rings.new }
+    ensures passes { PassesOver passing.now rings.old (brief_of result) rings.new }
     ensures apart { ring_at passing.now.from ≢ ring_at passing.now.onto }
 {
     if ring_at(passing.from) < ring_at(passing.onto) {

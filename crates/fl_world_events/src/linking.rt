@@ -43,5 +43,5 @@ pub fn monitor_ack_by_ring(core: &Core, link: LinkId, ring: &mut OneDuo, m: usiz
 {
     law_whole(core);
     let mut side = ring.side(which_at(m));
-    answer_ack(core.monitor_ack(link, &mut side))
+    answer_ack(core.monitor_ack(link, &mut side)).whole()
 }

@@ -7,7 +7,7 @@ ghost use Rattle.fl_link.specs.Queue.{front_of};
 ghost use Rattle.fl_ring.specs.Duo.{side_of};
 ghost use Rattle.fl_world_refines.specs.View.{which_at};
 ghost use Rattle.fl_world_refines.specs.Linking.{LooksWith, incoming, HearsWith, ArrivesWith, IsMoved, moved_answer};
-ghost use Rattle.fl_model.specs.Views.{answer_of};
+ghost use Rattle.fl_model.specs.Views.{brief_of};
 ghost use Rattle.fl_world_events.specs.Parts.{ByRing};
 ghost use Rattle.fl_world_events.specs.Passing.{Passes};
 ghost use Rattle.fl_core.specs.Links.{inbound};
@@ -19,7 +19,7 @@ use fl_base::{Circuit, EndId, Frag};
 use fl_compile::Program;
 use fl_core::{Core, LinkFront, LinkReceiveFault, MonitorAnswer};
 use fl_hop::{ForwardOutcome, move_on};
-use fl_model::Answer;
+use fl_model::BriefAnswer;
 use fl_nameserv::Names;
 use fl_ring::OneDuo;
 
@@ -74,22 +74,22 @@ pub fn hear_by_ring(
 // ---- a fragment moves
 
 // What is answered for a fragment that was to move.
-fn answer_move(outcome: ForwardOutcome) -> Answer
-    ensures moved { answer_of result ≡ moved_answer outcome }
+fn answer_move(outcome: ForwardOutcome) -> BriefAnswer
+    ensures moved { brief_of result ≡ moved_answer outcome }
 {
     match outcome {
-        ForwardOutcome::Moved => Answer::Forwarded,
-        ForwardOutcome::Full | ForwardOutcome::Spent => Answer::Full,
+        ForwardOutcome::Moved => BriefAnswer::Forwarded,
+        ForwardOutcome::Full | ForwardOutcome::Spent => BriefAnswer::Full,
     }
 }
 
 // What is answered for a fragment that was to arrive.
-fn answer_arrival(outcome: Result<ForwardOutcome, LinkReceiveFault>) -> Answer
-    ensures moved { IsMoved outcome (answer_of result) }
+fn answer_arrival(outcome: Result<ForwardOutcome, LinkReceiveFault>) -> BriefAnswer
+    ensures moved { IsMoved outcome (brief_of result) }
 {
     match outcome {
         Ok(outcome) => answer_move(outcome),
-        Err(fault) => Answer::Refused(fault.number()),
+        Err(fault) => BriefAnswer::Refused(fault.number()),
     }
 }
 
@@ -100,11 +100,11 @@ pub fn arrive_by_ring(
     ring: &mut OneDuo,
     frag: &Frag,
     name: EndId,
-) -> Answer
+) -> BriefAnswer
     requires link { at.link.0 < length core.old.link_sides }
     requires seen { front_of (side_of (which_at at.side) ring.old).waiting ≡ saw (bare frag.now) }
     requires call { is_ack_only (with_circuit 0 frag.now) ≡ false }
-    ensures arrives { ByRing at.side (ArrivesWith (inbound at.link.0 frag.now name) (answer_of result)) core.old ring.old core.new ring.new }
+    ensures arrives { ByRing at.side (ArrivesWith (inbound at.link.0 frag.now name) (brief_of result)) core.old ring.old core.new ring.new }
 {
     law_whole(core);
     let mut side = ring.side(which_at(at.side));
@@ -129,10 +129,14 @@ pub struct ForwardFrag {
 // It moves over two rings. In line, as what calls it: an answer that is made out of line is moved on, and each move waits for the
 // stores of the one before.
 #[inline(always)]
-pub(crate) fn move_between(passing: &ForwardFrag, from: &mut OneDuo, onto: &mut OneDuo) -> Answer
+pub(crate) fn move_between(
+    passing: &ForwardFrag,
+    from: &mut OneDuo,
+    onto: &mut OneDuo,
+) -> BriefAnswer
     requires seen { front_of (side_of (which_at passing.now.from) from.old).waiting ≡ saw (bare passing.now.frag) }
     requires call { is_ack_only (with_circuit passing.now.circuit.0 passing.now.frag) ≡ false }
-    ensures passes { Passes passing.now (record { from = from.old; onto = onto.old }) (answer_of result) (record { from = from.new; onto = onto.new }) }
+    ensures passes { Passes passing.now (record { from = from.old; onto = onto.old }) (brief_of result) (record { from = from.new; onto = onto.new }) }
 {
     let mut side = from.side(which_at(passing.from));
     let mut next = onto.side(which_at(passing.onto));

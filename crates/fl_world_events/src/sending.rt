@@ -10,7 +10,7 @@ ghost use Rattle.fl_world_refines.specs.View.{which_at};
 ghost use Rattle.fl_world_refines.specs.Lending.{answer_at};
 ghost use Rattle.fl_world_refines.specs.Sending.{IsCalled, IsShown, PreviewsWith};
 ghost use Rattle.fl_world_refines.specs.Sending.{IsWritten, WritesWith};
-ghost use Rattle.fl_model.specs.Views.{answer_of};
+ghost use Rattle.fl_model.specs.Views.{answer_of, brief_of};
 ghost use Rattle.fl_world_events.specs.Last.{NotRefused};
 ghost use Rattle.fl_world_events.specs.Parts.{InCore, ByQueue, ByRing, CallsIn, CallsWith, KeptOrNone};
 
@@ -19,7 +19,7 @@ use fl_base::{Frag, faults};
 use fl_core::Core;
 use fl_endpoint::{EndFault, WriteAnswer};
 use fl_link::QueueLink;
-use fl_model::Answer;
+use fl_model::{Answer, BriefAnswer};
 use fl_ring::OneDuo;
 use fl_value_data::Call;
 use fl_world_refines::Binding;
@@ -29,24 +29,24 @@ use std::alloc::AllocError;
 
 // What is answered where an end refuses a call.
 #[inline(always)]
-fn call_fault(fault: EndFault) -> Result<Answer, AllocError>
-    ensures called { IfOk result (λ a. IsCalled (Err fault) (answer_of a)) }
+fn call_fault(fault: EndFault) -> Result<BriefAnswer, AllocError>
+    ensures called { IfOk result (λ a. IsCalled (Err fault) (brief_of a)) }
     ensures memory { OnErr result (fault ≡ EndFault.Memory) }
 {
     match fault {
         EndFault::Memory => Err(AllocError),
-        _ => Ok(Answer::Refused(fault.number())),
+        _ => Ok(BriefAnswer::Refused(fault.number())),
     }
 }
 
 // What is answered for an end's answer to a call.
 #[inline(always)]
-fn answer_call(outcome: Result<(), EndFault>) -> Result<Answer, AllocError>
-    ensures called { IfOk result (λ a. IsCalled outcome (answer_of a)) }
+fn answer_call(outcome: Result<(), EndFault>) -> Result<BriefAnswer, AllocError>
+    ensures called { IfOk result (λ a. IsCalled outcome (brief_of a)) }
     ensures memory { OnErr result (outcome ≡ Err EndFault.Memory) }
 {
     match outcome {
-        Ok(()) => Ok(Answer::Accepted),
+        Ok(()) => Ok(BriefAnswer::Accepted),
         Err(fault) => call_fault(fault),
     }
 }
@@ -56,9 +56,9 @@ fn answer_call(outcome: Result<(), EndFault>) -> Result<Answer, AllocError>
 /// # Errors
 /// Out of memory.
 #[inline(always)]
-pub fn call_in(core: &mut Core, place: usize, call: &Call) -> Result<Answer, AllocError>
+pub fn call_in(core: &mut Core, place: usize, call: &Call) -> Result<BriefAnswer, AllocError>
     requires place { place < length core.old.board.seats }
-    ensures calls { IfOk result (λ a. InCore (CallsIn place (call_of call.now) (answer_of a)) core.old core.new) }
+    ensures calls { IfOk result (λ a. InCore (CallsIn place (call_of call.now) (brief_of a)) core.old core.new) }
     ensures kept { OnErr result (core.new ≡ core.old) }
     ensures last { OnErr result (NotRefused (λ a k. CallsIn place (call_of call.now) a core.old k)) }
 {
@@ -76,13 +76,13 @@ pub fn call_kept(
     binding: &mut Binding,
     call: &Call,
     spare: &mut Vec<u64>,
-) -> Result<Answer, AllocError>
-    ensures calls { IfOk result (λ a. KeptOrNone (CallsWith (call_of call.now) (answer_of a)) (answer_of a) binding.old binding.new) }
+) -> Result<BriefAnswer, AllocError>
+    ensures calls { IfOk result (λ a. KeptOrNone (CallsWith (call_of call.now) (brief_of a)) (brief_of a) binding.old binding.new) }
     ensures kept { OnErr result (binding.new ≡ binding.old) }
     ensures last { OnErr result (NotRefused (λ a b. KeptOrNone (CallsWith (call_of call.now) a) a binding.old b)) }
 {
     match &mut binding.unmade {
-        None => Ok(Answer::Refused(faults::WRONG_NAME)),
+        None => Ok(BriefAnswer::Refused(faults::WRONG_NAME)),
         Some(end) => answer_call(end.call(call, spare)),
     }
 }
@@ -125,27 +125,27 @@ pub fn show_by_ring(core: &Core, place: usize, ring: &mut OneDuo, m: usize) -> A
 
 // What is answered for what an end's write came to.
 #[inline(always)]
-fn wrote(outcome: Result<WriteAnswer, EndFault>) -> Answer
-    ensures wrote { IsWritten outcome (answer_of result) }
+fn wrote(outcome: Result<WriteAnswer, EndFault>) -> BriefAnswer
+    ensures wrote { IsWritten outcome (brief_of result) }
 {
     match outcome {
-        Err(fault) => Answer::Refused(fault.number()),
+        Err(fault) => BriefAnswer::Refused(fault.number()),
         Ok(answer) => match answer {
-            WriteAnswer::Written { number, count } => Answer::Written {
+            WriteAnswer::Written { number, count } => BriefAnswer::Written {
                 k: number,
                 n: count,
             },
-            WriteAnswer::Full => Answer::Full,
-            WriteAnswer::Nothing => Answer::Nothing,
+            WriteAnswer::Full => BriefAnswer::Full,
+            WriteAnswer::Nothing => BriefAnswer::Nothing,
         },
     }
 }
 
 /// The end at a place of a core's board writes, over a queue.
 #[inline(always)]
-pub fn write_by_queue(core: &mut Core, place: usize, queue: &mut QueueLink) -> Answer
+pub fn write_by_queue(core: &mut Core, place: usize, queue: &mut QueueLink) -> BriefAnswer
     requires place { place < length core.old.board.seats }
-    ensures writes { ByQueue (WritesWith QueuePuts (answer_at place (answer_of result))) core.old queue.old core.new queue.new }
+    ensures writes { ByQueue (WritesWith QueuePuts (answer_at place (brief_of result))) core.old queue.old core.new queue.new }
 {
     law_whole(core);
     let outcome = core.write(place, queue);
@@ -155,9 +155,9 @@ pub fn write_by_queue(core: &mut Core, place: usize, queue: &mut QueueLink) -> A
 
 /// The end at a place of a core's board writes, over side m of a ring.
 #[inline(always)]
-pub fn write_by_ring(core: &mut Core, place: usize, ring: &mut OneDuo, m: usize) -> Answer
+pub fn write_by_ring(core: &mut Core, place: usize, ring: &mut OneDuo, m: usize) -> BriefAnswer
     requires place { place < length core.old.board.seats }
-    ensures writes { ByRing m (WritesWith SidePuts (answer_at place (answer_of result))) core.old ring.old core.new ring.new }
+    ensures writes { ByRing m (WritesWith SidePuts (answer_at place (brief_of result))) core.old ring.old core.new ring.new }
 {
     law_whole(core);
     let mut side = ring.side(which_at(m));

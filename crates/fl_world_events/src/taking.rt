@@ -15,7 +15,8 @@ ghost use Rattle.fl_world_refines.specs.Taking.{AcksWith};
 ghost use Rattle.fl_world_refines.specs.Taking.{TellsNothing, IsRegistered, RegistersWith, RegistersArrivals};
 ghost use Rattle.fl_world_refines.specs.Taking.{DeregistersIn, IsRuled};
 ghost use Rattle.fl_world_refines.specs.Linking.{ack_answer};
-ghost use Rattle.fl_model.specs.Views.{answer_of};
+ghost use Rattle.fl_model.specs.Views.{answer_of, brief_of, turned_of};
+ghost use Rattle.fl_value_data.specs.Value.{call_of};
 ghost use Rattle.fl_world_events.specs.Parts.{InCore, ByQueue, ByRing, KeptOrNone, RulesIn, RulesWith};
 ghost use Rattle.fl_world_events.specs.Wants.{HandlesCall, HandlesOnRing, HandlesArrival};
 
@@ -24,8 +25,9 @@ use fl_base::{EndId, MsgNo, faults};
 use fl_core::{AckAnswer, BoardFault, Core, TurnAnswer};
 use fl_endpoint::EndFault;
 use fl_link::QueueLink;
-use fl_model::Answer;
+use fl_model::{Answer, BriefAnswer, TurnedAnswer};
 use fl_ring::{OneDuo, law_forgets_looks};
+use fl_value_data::Call;
 use fl_world_refines::Binding;
 use std::alloc::AllocError;
 
@@ -42,20 +44,22 @@ pub struct DueEnd {
     pub name: EndId,
 }
 
-// What is answered for a turn that looked at an end. Out of line, so that the answer is made in memory once: in line it
-// is moved on by pieces, and each move waits for the stores of the one before.
-#[inline(never)]
-fn answer_turn(answer: TurnAnswer, end: EndId) -> Answer
-    ensures turned { answer_of result ≡ turn_answer end answer }
+// What is answered for a turn that looked at an end. A call that was handled takes the place of the one of before.
+#[inline(always)]
+fn answer_turn(answer: TurnAnswer, end: EndId, handled: &mut Call) -> TurnedAnswer
+    ensures turned { turned_of result (call_of handled.new) ≡ turn_answer end answer }
 {
     match answer {
-        TurnAnswer::Handle(call) => Answer::Handle { end, call },
-        TurnAnswer::Part => Answer::Part(end),
-        TurnAnswer::Ready => Answer::Ready(end),
-        TurnAnswer::Quiet => Answer::Quiet(end),
-        TurnAnswer::Full => Answer::Full,
-        TurnAnswer::Nothing => Answer::Nothing,
-        TurnAnswer::Refused(fault) => Answer::Refused(fault.number()),
+        TurnAnswer::Handle(call) => {
+            *handled = call;
+            TurnedAnswer::Handle(end)
+        }
+        TurnAnswer::Part => TurnedAnswer::Part(end),
+        TurnAnswer::Ready => TurnedAnswer::Ready(end),
+        TurnAnswer::Quiet => TurnedAnswer::Quiet(end),
+        TurnAnswer::Full => TurnedAnswer::Full,
+        TurnAnswer::Nothing => TurnedAnswer::Nothing,
+        TurnAnswer::Refused(fault) => TurnedAnswer::Refused(fault.number()),
     }
 }
 
@@ -76,13 +80,14 @@ pub fn turn_by_queue(
     core: &mut Core,
     at: DueEnd,
     queue: &mut QueueLink,
-) -> Result<Answer, AllocError>
+    handled: &mut Call,
+) -> Result<TurnedAnswer, AllocError>
     requires there { at.dispatcher < length core.old.board.dispatchers }
     requires due { due core.old.board at.dispatcher ≡ Some at.end }
     requires end { at.end < length core.old.board.seats }
     requires lent { arrivals_of core.old at.end ≡ None }
     ensures turns { IfOk result (λ a. ByQueue
-        (TurnsWith QueueTakes (as_turn at.dispatcher at.end at.name (answer_of a))) core.old queue.old core.new queue.new) }
+        (TurnsWith QueueTakes (as_turn at.dispatcher at.end at.name (turned_of a (call_of handled.new)))) core.old queue.old core.new queue.new) }
     ensures kept { OnErr result (core.new ≡ core.old) }
     ensures left { OnErr result (queue.new ≡ queue.old) }
     ensures wants { OnErr result (HandlesCall QueueTakes at.dispatcher at.end core.old.board queue.old) }
@@ -92,7 +97,7 @@ pub fn turn_by_queue(
     let answer = core.turn(at.dispatcher, at.end, queue);
     law_whole(core);
     match answer {
-        Ok(answer) => Ok(answer_turn(answer, at.name)),
+        Ok(answer) => Ok(answer_turn(answer, at.name, handled)),
         Err(error) => Err(error),
     }
 }
@@ -130,12 +135,13 @@ pub fn turn_by_ring(
     at: DueEnd,
     ring: &mut OneDuo,
     m: usize,
-) -> Result<Answer, AllocError>
+    handled: &mut Call,
+) -> Result<TurnedAnswer, AllocError>
     requires there { at.dispatcher < length core.old.board.dispatchers }
     requires due { due core.old.board at.dispatcher ≡ Some at.end }
     requires end { at.end < length core.old.board.seats }
     requires lent { arrivals_of core.old at.end ≡ None }
-    ensures turns { IfOk result (λ a. ByRing m (TurnsWith SideTakes (as_turn at.dispatcher at.end at.name (answer_of a))) core.old ring.old core.new ring.new) }
+    ensures turns { IfOk result (λ a. ByRing m (TurnsWith SideTakes (as_turn at.dispatcher at.end at.name (turned_of a (call_of handled.new)))) core.old ring.old core.new ring.new) }
     ensures kept { OnErr result (core.new ≡ core.old) }
     ensures left { OnErr result (ring.new ≡ ring.old) }
     ensures wants { OnErr result (HandlesOnRing m at.dispatcher at.end core.old.board ring.old) }
@@ -143,7 +149,7 @@ pub fn turn_by_ring(
     let known = ring.known(which_at(m));
     law_sound(core, at.end);
     match turn_over(core, at, ring, m) {
-        Ok(answer) => Ok(answer_turn(answer, at.name)),
+        Ok(answer) => Ok(answer_turn(answer, at.name, handled)),
         Err(error) => {
             law_forgets_looks();
             ring.forget(which_at(m), known);
@@ -156,12 +162,12 @@ pub fn turn_by_ring(
 ///
 /// # Errors
 /// Out of memory, only where it would handle a call.
-pub fn turn_in(core: &mut Core, at: DueEnd) -> Result<Answer, AllocError>
+pub fn turn_in(core: &mut Core, at: DueEnd, handled: &mut Call) -> Result<TurnedAnswer, AllocError>
     requires there { at.dispatcher < length core.old.board.dispatchers }
     requires due { due core.old.board at.dispatcher ≡ Some at.end }
     requires end { at.end < length core.old.board.seats }
     requires own { IsSome (arrivals_of core.old at.end) }
-    ensures turns { IfOk result (λ a. InCore (TurnsArrivals (as_turn at.dispatcher at.end at.name (answer_of a))) core.old core.new) }
+    ensures turns { IfOk result (λ a. InCore (TurnsArrivals (as_turn at.dispatcher at.end at.name (turned_of a (call_of handled.new)))) core.old core.new) }
     ensures kept { OnErr result (core.new ≡ core.old) }
     ensures wants { OnErr result (HandlesArrival at.dispatcher at.end core.old) }
 {
@@ -170,7 +176,7 @@ pub fn turn_in(core: &mut Core, at: DueEnd) -> Result<Answer, AllocError>
     let answer = core.turn_arrivals(at.dispatcher, at.end);
     law_whole(core);
     match answer {
-        Ok(answer) => Ok(answer_turn(answer, at.name)),
+        Ok(answer) => Ok(answer_turn(answer, at.name, handled)),
         Err(error) => Err(error),
     }
 }
@@ -178,39 +184,39 @@ pub fn turn_in(core: &mut Core, at: DueEnd) -> Result<Answer, AllocError>
 // ---- acknowledgements
 
 // What is answered for what an end's acknowledgement came to.
-pub(crate) fn answer_ack(answer: AckAnswer) -> Answer
-    ensures acked { answer_of result ≡ ack_answer answer }
+pub(crate) fn answer_ack(answer: AckAnswer) -> BriefAnswer
+    ensures acked { brief_of result ≡ ack_answer answer }
 {
     match answer {
-        AckAnswer::Done => Answer::Done,
-        AckAnswer::Nothing => Answer::Nothing,
-        AckAnswer::Full => Answer::Full,
+        AckAnswer::Done => BriefAnswer::Done,
+        AckAnswer::Nothing => BriefAnswer::Nothing,
+        AckAnswer::Full => BriefAnswer::Full,
     }
 }
 
 /// The end at a place of a core's board acknowledges, over side m of a ring.
-pub fn ack_by_ring(core: &Core, place: usize, ring: &mut OneDuo, m: usize) -> Answer
+pub fn ack_by_ring(core: &Core, place: usize, ring: &mut OneDuo, m: usize) -> BriefAnswer
     requires place { place < length core.now.board.seats }
     requires lent { arrivals_of core.now place ≡ None }
-    ensures acks { ByRing m (AcksWith (answer_at place (answer_of result))) core.now ring.old core.now ring.new }
+    ensures acks { ByRing m (AcksWith (answer_at place (brief_of result))) core.now ring.old core.now ring.new }
 {
     law_whole(core);
     let mut side = ring.side(which_at(m));
     match core.ack(place, &mut side) {
         Ok(answer) => answer_ack(answer),
-        Err(fault) => Answer::Refused(fault.number()),
+        Err(fault) => BriefAnswer::Refused(fault.number()),
     }
 }
 
 /// The end at a place of a core's board takes from a queue, which has nothing to tell.
-pub fn tell_nothing(core: &Core, place: usize) -> Answer
+pub fn tell_nothing(core: &Core, place: usize) -> BriefAnswer
     requires place { place < length core.now.board.seats }
-    ensures tells { Holds core.now.board place (λ s. TellsNothing s.end (answer_of result)) }
+    ensures tells { Holds core.now.board place (λ s. TellsNothing s.end (brief_of result)) }
 {
     if core.board().end(place).is_bound() {
-        Answer::Nothing
+        BriefAnswer::Nothing
     } else {
-        Answer::Refused(faults::NOT_BOUND)
+        BriefAnswer::Refused(faults::NOT_BOUND)
     }
 }
 

@@ -1,7 +1,7 @@
 //! A system that stays as it is at its start: each event is out of memory.
 
 use fl_base::EndId;
-use fl_model::{Answer, DispatcherId, Event, Machine};
+use fl_model::{Answer, BriefAnswer, DispatcherId, Event, Machine, TurnedAnswer};
 use fl_value_data::Call;
 use std::alloc::{AllocError, Global};
 
@@ -22,15 +22,19 @@ impl Machine for Still {
         Err(AllocError)
     }
 
-    fn step_call(&mut self, _end: EndId, _call: &Call) -> Result<Answer, AllocError> {
+    fn step_call(&mut self, _end: EndId, _call: &Call) -> Result<BriefAnswer, AllocError> {
         Err(AllocError)
     }
 
-    fn step_write(&mut self, _end: EndId) -> Result<Answer, AllocError> {
+    fn step_write(&mut self, _end: EndId) -> Result<BriefAnswer, AllocError> {
         Err(AllocError)
     }
 
-    fn step_turn(&mut self, _dispatcher: DispatcherId) -> Result<Answer, AllocError> {
+    fn step_turn(
+        &mut self,
+        _dispatcher: DispatcherId,
+        _handled: &mut Call,
+    ) -> Result<TurnedAnswer, AllocError> {
         Err(AllocError)
     }
 
@@ -38,11 +42,11 @@ impl Machine for Still {
         Err(AllocError)
     }
 
-    fn step_ack(&mut self, _end: EndId) -> Result<Answer, AllocError> {
+    fn step_ack(&mut self, _end: EndId) -> Result<BriefAnswer, AllocError> {
         Err(AllocError)
     }
 
-    fn step_forward(&mut self, _core: u32, _neighbour: u32) -> Result<Answer, AllocError> {
+    fn step_forward(&mut self, _core: u32, _neighbour: u32) -> Result<BriefAnswer, AllocError> {
         Err(AllocError)
     }
 }

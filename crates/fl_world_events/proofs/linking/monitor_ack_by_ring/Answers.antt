@@ -10,7 +10,7 @@ returns c = record {
       side = c.side-side.result;
       lent = record { ring = c.side-side.ensures.ring; which = c.side-side.ensures.side ∙ c.which_at.ensures.which };
       left = c.monitor_ack.new.from;
-      event = (c.monitor_ack.result, c.monitor_ack.ensures.acks, refl, c.answer_ack.ensures.acked);
+      event = (c.monitor_ack.result, c.monitor_ack.ensures.acks, refl, c.whole.ensures.whole ∙ c.answer_ack.ensures.acked);
       rest = search rules;
     };
   };

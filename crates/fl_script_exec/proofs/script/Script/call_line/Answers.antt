@@ -1,5 +1,6 @@
 use Rattle.std.proofs.Common.{refl}
 use Rattle.fl_model.specs.declared.event.Event.TheVariants as event
+use Rattle.fl_model.specs.Views.{brief_of}
 use Rattle.fl_script_lines.specs.Reading.{command_by}
 use Rattle.fl_script_lines.specs.declared.command.Verb.TheVariants as verb
 use Rattle.fl_script_exec.proofs.LineLemmas.{line_stepped, roomless_refused}
@@ -10,9 +11,9 @@ returns-in-Ok g c =
     let tells = rw c.in-Ok.is at c.call_line.ensures.tells in
     record {
       ok =
-          line_stepped g.M.Machine.shows c.args.self.now _ c.args.out.now.items
-          c.put_outcome.new.out.items (command_by verb.Call c.args.rest.now) (event.Call c.in-Ok.end c.in-Ok.call)
-          c.step_call-outcome.result c.put_outcome.result tells refl c.step_call-outcome.ensures.steps c.put_outcome.ensures.put c.put_outcome.ensures.none;
+          line_stepped brief_of g.M.Machine.shows c.args.self.now _ c.args.out.now.items
+          c.put_brief.new.out.items (command_by verb.Call c.args.rest.now) (event.Call c.in-Ok.end c.in-Ok.call)
+          c.step_call-outcome.result c.put_brief.result tells refl c.step_call-outcome.ensures.steps c.put_brief.ensures.put c.put_brief.ensures.none;
     }
 
 pub returns-in-Err : goal.returns-in-Err

@@ -57,31 +57,31 @@ pub returns-in-Bind-clause-memory : goal.returns-in-Bind-clause-memory
 returns-in-Bind-clause-memory c = rw c.in-Bind.is (on_any _ c.bind.result refl)
 
 pub returns-in-Call-clause-does : goal.returns-in-Call-clause-does
-returns-in-Call-clause-does c = rw c.in-Call.is c.call.ensures.calls
+returns-in-Call-clause-does c = rw c.in-Call.is c.call_whole.ensures.calls
 
 pub returns-in-Call-clause-kept : goal.returns-in-Call-clause-kept
-returns-in-Call-clause-kept c = c.call.ensures.kept
+returns-in-Call-clause-kept c = c.call_whole.ensures.kept
 
 pub returns-in-Call-clause-memory : goal.returns-in-Call-clause-memory
-returns-in-Call-clause-memory c = rw c.in-Call.is (on_any _ c.call.result refl)
+returns-in-Call-clause-memory c = rw c.in-Call.is (on_any _ c.call_whole.result refl)
 
 pub returns-in-Show : goal.returns-in-Show
 returns-in-Show c = record { does = rw c.in-Show.is c.show.ensures.shows; kept = tt; memory = tt; last = tt }
 
 pub returns-in-Write : goal.returns-in-Write
-returns-in-Write c = record { does = rw c.in-Write.is c.write.ensures.writes; kept = tt; memory = tt; last = tt }
+returns-in-Write c = record { does = rw (c.in-Write.is, c.whole.ensures.whole) c.write.ensures.writes; kept = tt; memory = tt; last = tt }
 
 pub returns-in-Turn-clause-does : goal.returns-in-Turn-clause-does
-returns-in-Turn-clause-does c = rw c.in-Turn.is c.turn.ensures.turns
+returns-in-Turn-clause-does c = rw c.in-Turn.is c.turn_whole.ensures.turns
 
 pub returns-in-Turn-clause-kept : goal.returns-in-Turn-clause-kept
-returns-in-Turn-clause-kept c = c.turn.ensures.kept
+returns-in-Turn-clause-kept c = c.turn_whole.ensures.kept
 
 pub returns-in-Turn-clause-memory : goal.returns-in-Turn-clause-memory
-returns-in-Turn-clause-memory c = rw c.in-Turn.is (on_any _ c.turn.result refl)
+returns-in-Turn-clause-memory c = rw c.in-Turn.is (on_any _ c.turn_whole.result refl)
 
 pub returns-in-Ack : goal.returns-in-Ack
-returns-in-Ack c = record { does = rw c.in-Ack.is c.ack.ensures.acks; kept = tt; memory = tt; last = tt }
+returns-in-Ack c = record { does = rw (c.in-Ack.is, c.whole-in-Ack.ensures.whole) c.ack.ensures.acks; kept = tt; memory = tt; last = tt }
 
 pub returns-in-Register : goal.returns-in-Register
 returns-in-Register c = record { does = rw c.in-Register.is c.register.ensures.registers; kept = tt; memory = tt; last = tt }
@@ -96,13 +96,13 @@ pub returns-in-MonitorWrite : goal.returns-in-MonitorWrite
 returns-in-MonitorWrite c = record { does = rw c.in-MonitorWrite.is c.monitor_write.ensures.writes; kept = tt; memory = tt; last = tt }
 
 pub returns-in-Forward-clause-does : goal.returns-in-Forward-clause-does
-returns-in-Forward-clause-does c = rw c.in-Forward.is c.forward.ensures.forwards
+returns-in-Forward-clause-does c = rw c.in-Forward.is c.forward_whole.ensures.forwards
 
 pub returns-in-Forward-clause-kept : goal.returns-in-Forward-clause-kept
-returns-in-Forward-clause-kept c = c.forward.ensures.kept
+returns-in-Forward-clause-kept c = c.forward_whole.ensures.kept
 
 pub returns-in-Forward-clause-memory : goal.returns-in-Forward-clause-memory
-returns-in-Forward-clause-memory c = rw c.in-Forward.is (on_any _ c.forward.result refl)
+returns-in-Forward-clause-memory c = rw c.in-Forward.is (on_any _ c.forward_whole.result refl)
 
 pub returns-in-MonitorAck : goal.returns-in-MonitorAck
 returns-in-MonitorAck c = record { does = rw c.in-MonitorAck.is c.monitor_ack.ensures.acks; kept = tt; memory = tt; last = tt }
@@ -126,10 +126,10 @@ pub returns-in-Bind-clause-last : goal.returns-in-Bind-clause-last
 returns-in-Bind-clause-last c = rw c.in-Bind.is c.bind.ensures.last
 
 pub returns-in-Call-clause-last : goal.returns-in-Call-clause-last
-returns-in-Call-clause-last c = rw c.in-Call.is c.call.ensures.last
+returns-in-Call-clause-last c = rw c.in-Call.is c.call_whole.ensures.last
 
 pub returns-in-Turn-clause-last : goal.returns-in-Turn-clause-last
-returns-in-Turn-clause-last c = rw c.in-Turn.is c.turn.ensures.last
+returns-in-Turn-clause-last c = rw c.in-Turn.is c.turn_whole.ensures.last
 
 pub returns-in-Forward-clause-last : goal.returns-in-Forward-clause-last
-returns-in-Forward-clause-last c = rw c.in-Forward.is c.forward.ensures.last
+returns-in-Forward-clause-last c = rw c.in-Forward.is c.forward_whole.ensures.last

@@ -4,8 +4,8 @@ use Rattle.fl_model.specs.Events.{Answer, refused, nothing}
 use Rattle.fl_world_refines.specs.View.{Given, TheWorld, ring_at}
 use Rattle.fl_world_refines.specs.Lending.{Refuses, IsStray}
 use Rattle.fl_world_refines.specs.Linking.{LinkNumbers, link_side_to, Forwards, ForwardsFirst}
-use Rattle.fl_model.specs.declared.answer.Answer.{Answer as RustAnswer}
-use Rattle.fl_model.specs.Views.{answer_of}
+use Rattle.fl_model.specs.declared.answer.BriefAnswer.{BriefAnswer}
+use Rattle.fl_model.specs.Views.{brief_of}
 use Rattle.fl_world.specs.Hearing.{FindsMessage, WantsToSay}
 use Rattle.fl_world.proofs.Lent.{stray_ring, ring_here}
 use Rattle.fl_world.proofs.world.World.forward.Goals as goal
@@ -14,12 +14,12 @@ use Rattle.fl_world.proofs.world.World.forward.Goals as goal
 abbrev by_link_side : (o : Option LinkNumbers) → ℕ → TheWorld → Answer → TheWorld → Type 0
 by_link_side o core w a w2 = Given o (Refuses 73 w a w2) λ at. ForwardsFirst core at w a w2 ⊎ IsStray w.rings (ring_at at.side) w a w2
 
-first : (w : TheWorld) (core neighbour : ℕ) (at : LinkNumbers) → Some at ≡ link_side_to w core neighbour → (r : Result RustAnswer AllocError) (w2 : TheWorld)
-    → IfOk r (λ a. ForwardsFirst core at w (answer_of a) w2) → IfOk r (λ a. Forwards core neighbour w (answer_of a) w2)
-first w core neighbour at is (Ok a) w2 h = subst (λ (o : Option LinkNumbers). by_link_side o core w (answer_of a) w2) is (inl h)
+first : (w : TheWorld) (core neighbour : ℕ) (at : LinkNumbers) → Some at ≡ link_side_to w core neighbour → (r : Result BriefAnswer AllocError) (w2 : TheWorld)
+    → IfOk r (λ a. ForwardsFirst core at w (brief_of a) w2) → IfOk r (λ a. Forwards core neighbour w (brief_of a) w2)
+first w core neighbour at is (Ok a) w2 h = subst (λ (o : Option LinkNumbers). by_link_side o core w (brief_of a) w2) is (inl h)
 first w core neighbour at is (Err e) w2 h = tt
 
-first_says : (w : TheWorld) (core neighbour : ℕ) (at : LinkNumbers) → Some at ≡ link_side_to w core neighbour → (r : Result RustAnswer AllocError)
+first_says : (w : TheWorld) (core neighbour : ℕ) (at : LinkNumbers) → Some at ≡ link_side_to w core neighbour → (r : Result BriefAnswer AllocError)
     → OnErr r (FindsMessage core at w) → OnErr r (WantsToSay core neighbour w)
 first_says w core neighbour at is (Ok a) h = tt
 first_says w core neighbour at is (Err e) h = subst (λ (o : Option LinkNumbers). Given o ⊥ λ x. FindsMessage core x w) is h

@@ -5,6 +5,7 @@ use Rattle.fl_core.specs.BoardView.{TheBoard}
 use Rattle.fl_model.specs.Views.{id_of}
 use Rattle.fl_world_refines.specs.View.{TheWorld}
 use Rattle.fl_world.proofs.Requested.{if_true}
+use Rattle.fl_value_data.specs.Value.{call_of}
 use Rattle.fl_world.proofs.Handling.{wants_to_handle}
 use Rattle.fl_world.proofs.Seen.{seen, unseen, no_dispatcher_at, lacks_dispatcher, holds_dispatcher, dispatcher_below}
 use Rattle.fl_world.proofs.Turned.{none_due, due_over, is_due, turn_done}
@@ -59,7 +60,7 @@ returns-in-Queue c =
     record {
       turns = turn_done c.args.self.now (id_of c.args.d) c.in-Some.core.now core c.board-board.result.now c.board-board.ensures.board
           there c.in-Some-due.e c.in-Some-due.ensures.due c.name.result _ (c.inlet.ensures.inlet ∙ ap Some c.in-Queue.is)
-          c.name.ensures.place has c.turn_over_queue.result c.turn_over_queue.new.self c.turn_over_queue.ensures.turns;
+          c.name.ensures.place has c.turn_over_queue.result (call_of c.turn_over_queue.new.handled) c.turn_over_queue.new.self c.turn_over_queue.ensures.turns;
       kept = c.turn_over_queue.ensures.kept;
       last = wants_to_handle c.args.self.now (id_of c.args.d) c.in-Some-due.e c.name.result _
           (is_due c.args.self.now (id_of c.args.d) c.in-Some.core.now core c.board-board.result.now c.board-board.ensures.board
@@ -85,7 +86,7 @@ returns-in-Side c =
     record {
       turns = turn_done c.args.self.now (id_of c.args.d) c.in-Some.core.now core c.board-board.result.now c.board-board.ensures.board
           there c.in-Some-due.e c.in-Some-due.ensures.due c.name.result _ (c.inlet.ensures.inlet ∙ ap Some c.in-Side.is)
-          c.name.ensures.place has c.turn_over_side.result c.turn_over_side.new.self c.turn_over_side.ensures.turns;
+          c.name.ensures.place has c.turn_over_side.result (call_of c.turn_over_side.new.handled) c.turn_over_side.new.self c.turn_over_side.ensures.turns;
       kept = c.turn_over_side.ensures.kept;
       last = wants_to_handle c.args.self.now (id_of c.args.d) c.in-Some-due.e c.name.result _
           (is_due c.args.self.now (id_of c.args.d) c.in-Some.core.now core c.board-board.result.now c.board-board.ensures.board
@@ -111,7 +112,7 @@ returns-in-Arrivals c =
     record {
       turns = turn_done c.args.self.now (id_of c.args.d) c.in-Some.core.now core c.board-board.result.now c.board-board.ensures.board
           there c.in-Some-due.e c.in-Some-due.ensures.due c.name.result _ (c.inlet.ensures.inlet ∙ ap Some c.in-Arrivals.is)
-          c.name.ensures.place has c.turn_over_arrivals.result c.turn_over_arrivals.new.self c.turn_over_arrivals.ensures.turns;
+          c.name.ensures.place has c.turn_over_arrivals.result (call_of c.turn_over_arrivals.new.handled) c.turn_over_arrivals.new.self c.turn_over_arrivals.ensures.turns;
       kept = c.turn_over_arrivals.ensures.kept;
       last = wants_to_handle c.args.self.now (id_of c.args.d) c.in-Some-due.e c.name.result _
           (is_due c.args.self.now (id_of c.args.d) c.in-Some.core.now core c.board-board.result.now c.board-board.ensures.board

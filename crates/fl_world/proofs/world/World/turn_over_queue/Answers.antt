@@ -1,7 +1,8 @@
 use Rattle.std.proofs.Common.{refl, arith, inr}
 use Rattle.fl_link.specs.Queue.{QueueTakes}
 use Rattle.fl_world_refines.specs.Taking.{as_turn, TurnsWith}
-use Rattle.fl_model.specs.Views.{answer_of}
+use Rattle.fl_value_data.specs.Value.{call_of}
+use Rattle.fl_model.specs.Views.{turned_of}
 use Rattle.fl_world_refines.specs.View.{TheWorld}
 use Rattle.fl_world.proofs.Handling.{from_queue}
 use Rattle.fl_world.proofs.Lifts.{due_read, queue_if_ok, few_kept, queue_put_back, on_err_both, on_err_map}
@@ -9,7 +10,7 @@ use Rattle.fl_world.proofs.Lent.{due_there, due_end, due_within, lent_to_queue, 
 use Rattle.fl_world.proofs.world.World.turn_over_queue.Goals as goal
 
 pub returns-in-Some-clause-turns : goal.returns-in-Some-clause-turns
-returns-in-Some-clause-turns c = queue_if_ok c.args.self.now _ c.self.view_is c.args.n c.args.q (due_read c.args.self.now _ c.self.view_is c.args.n c.args.at _ c.requires.due) (omega (arith, c.in-Some.ensures.variant.0 refl, c.self.inside.queues.ok.0)) _ _ c.index_mut.ensures.value refl _ _ c.in-Some.ensures.value refl (λ a. TurnsWith QueueTakes (as_turn c.args.at.dispatcher c.args.at.end c.args.at.name (answer_of a))) _ _ c.turn_by_queue.result c.turn_by_queue.ensures.turns
+returns-in-Some-clause-turns c = queue_if_ok c.args.self.now _ c.self.view_is c.args.n c.args.q (due_read c.args.self.now _ c.self.view_is c.args.n c.args.at _ c.requires.due) (omega (arith, c.in-Some.ensures.variant.0 refl, c.self.inside.queues.ok.0)) _ _ c.index_mut.ensures.value refl _ _ c.in-Some.ensures.value refl (λ a. TurnsWith QueueTakes (as_turn c.args.at.dispatcher c.args.at.end c.args.at.name (turned_of a (call_of c.turn_by_queue.new.handled)))) (call_of c.turn_by_queue.new.handled) _ _ c.turn_by_queue.result c.turn_by_queue.ensures.turns
 
 pub invariant_of-self : goal.invariant_of-self
 invariant_of-self c = c.self.invariant

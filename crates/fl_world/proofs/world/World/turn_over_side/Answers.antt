@@ -1,14 +1,15 @@
 use Rattle.std.proofs.Common.{refl, arith, inr}
 use Rattle.fl_ring.specs.Side.{SideTakes}
 use Rattle.fl_world_refines.specs.Taking.{as_turn, TurnsWith}
-use Rattle.fl_model.specs.Views.{answer_of}
+use Rattle.fl_value_data.specs.Value.{call_of}
+use Rattle.fl_model.specs.Views.{turned_of}
 use Rattle.fl_world.proofs.Handling.{from_side}
 use Rattle.fl_world.proofs.Lifts.{due_read, side_if_ok, few_kept, ring_put_back, on_err_both, on_err_map}
 use Rattle.fl_world.proofs.Lent.{due_there, due_end, due_within, lent_to_side, past_end, stray_ring}
 use Rattle.fl_world.proofs.world.World.turn_over_side.Goals as goal
 
 pub returns-in-Some-clause-turns : goal.returns-in-Some-clause-turns
-returns-in-Some-clause-turns c = side_if_ok c.args.self.now _ c.self.view_is c.args.n c.args.m _ c.ring_at.ensures.ring (due_read c.args.self.now _ c.self.view_is c.args.n c.args.at _ c.requires.due) (omega (arith, c.in-Some.ensures.variant.0 refl, c.self.inside.rings.ok.0)) _ _ c.index_mut.ensures.value refl _ _ c.in-Some.ensures.value refl (λ a. TurnsWith SideTakes (as_turn c.args.at.dispatcher c.args.at.end c.args.at.name (answer_of a))) _ _ c.turn_by_ring.result c.turn_by_ring.ensures.turns
+returns-in-Some-clause-turns c = side_if_ok c.args.self.now _ c.self.view_is c.args.n c.args.m _ c.ring_at.ensures.ring (due_read c.args.self.now _ c.self.view_is c.args.n c.args.at _ c.requires.due) (omega (arith, c.in-Some.ensures.variant.0 refl, c.self.inside.rings.ok.0)) _ _ c.index_mut.ensures.value refl _ _ c.in-Some.ensures.value refl (λ a. TurnsWith SideTakes (as_turn c.args.at.dispatcher c.args.at.end c.args.at.name (turned_of a (call_of c.turn_by_ring.new.handled)))) (call_of c.turn_by_ring.new.handled) _ _ c.turn_by_ring.result c.turn_by_ring.ensures.turns
 
 pub invariant_of-self : goal.invariant_of-self
 invariant_of-self c = c.self.invariant
