@@ -147,9 +147,13 @@ fn run_noting<R: Wait, G: Gate>(
     })
 }
 
+// Room for so many records more than are asked for: so the records of two cores, for which memory is asked one behind the
+// other, share no cache line, nor lines that are fetched together.
+const APART: usize = 16;
+
 // So many records in which nothing is noted yet, with room for the first notes.
 fn fresh_records(alloc: Global, count: usize) -> Result<Vec<SideRecord>, AllocError> {
-    let mut records = Vec::with_capacity(alloc, count)?;
+    let mut records = Vec::with_capacity(alloc, count.saturating_add(APART))?;
     for _ in 0..count {
         records.push(SideRecord::with_room(alloc)?)?;
     }

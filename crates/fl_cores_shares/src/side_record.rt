@@ -126,11 +126,12 @@ impl SideRecord {
     /// A look at the next fragment, which saw it or found nothing, is noted.
     #[inline(always)]
     pub fn note_look(&mut self, found: bool) {
-        if self.taken < self.seen {
-            return;
-        }
         if !found {
             self.missing = self.missing.wrapping_add(1);
+            return;
+        }
+        // what was seen before stands there until it is taken
+        if self.taken < self.seen {
             return;
         }
         if self.missing > 0 {
