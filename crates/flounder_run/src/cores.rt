@@ -15,7 +15,7 @@ use flounder_commands::{
     Fault, FileKind, FileName, FileStore, explain_line, fault_of_reading, fault_of_writing, finish,
     print, tell_unfinished,
 };
-use std::alloc::Global;
+use std::alloc::{AllocError, Global};
 use std::io::{BufWriter, Write};
 use std::sync::Wait;
 use std::thread::{Threads, yield_now};
@@ -47,6 +47,15 @@ pub(crate) fn cores_command<
     }
 }
 
+// Bytes that are asked for once and given back.
+const LARGEST: usize = 16_777_216;
+
+// Asks for a large block and gives it back untouched. From then on an allocator that hands blocks back to the system by their size,
+// as that of glibc, keeps those that are smaller: what one step of a run gives back serves the next, and no page of it is met anew.
+fn keep_memory(alloc: Global) {
+    let _room: Result<Vec<u8>, AllocError> = Vec::with_capacity(alloc, LARGEST);
+}
+
 // `cores FILE --turns N`: runs a cores file on threads, and prints what is told of that: the report, or the line
 // that is refused. `gate` is called before each turn.
 fn cores_file<T: Threads + Wait + Sync, G: Gate + Sync, F: FileStore, W: Write + Drop, E: Write>(
@@ -62,6 +71,7 @@ fn cores_file<T: Threads + Wait + Sync, G: Gate + Sync, F: FileStore, W: Write +
     ensures ran { Does (F.effects files.old) (F.effects files.new)
         (RunsCores file.now turns (output_of W.contents output.old output.new) result) }
 {
+    keep_memory(alloc);
     match files.read(alloc, file, FileKind::Cores) {
         Ok(content) => cores_read(rt, gate, alloc, file, &content, turns, output, errors),
         Err(error) => finish(Err(fault_of_reading(file, error)), errors),
