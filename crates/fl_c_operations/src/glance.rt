@@ -1,4 +1,5 @@
-//! What an end takes at its first look, where no call is under way: so a call of one fragment needs no values, and no memory.
+//! What an end takes at its first look, where no call is under way: so a call of one fragment and of scalars and enums alone
+//! needs no values, and no memory.
 
 ghost use Rattle.std.specs.Prelude.{◌≡◌, None};
 ghost use Rattle.fl_link.specs.Looks.{saw_ack, found_ack};

@@ -41,10 +41,11 @@ impl Model for CompactCall {
 }
 
 impl CompactCall {
-    /// A call, whose arguments are taken out of it. Takes no memory for one of one number.
+    /// A call, whose arguments are taken out of it, but where they are one number of 0 to 2^64 - 1. Takes no memory for such a
+    /// one.
     ///
     /// # Errors
-    /// Out of memory.
+    /// Out of memory. The arguments are gone then.
     #[inline(always)]
     pub fn take(alloc: Global, call: &mut Call) -> Result<CompactCall, AllocError>
         ensures taken { IfOk result (λ c. c ≡ call.old) }

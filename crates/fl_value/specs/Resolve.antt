@@ -17,7 +17,7 @@ named_from name (m ∷ ms) k = if bytes_eq m.name name then Some k else named_fr
 abbrev pub where_fitting : TheInterface → TheCall → Result TheCall ValueFault
 where_fitting i c = if fits_of i c then Ok c else Err DoesNotFit
 
--- a message's number is below 65,536
+-- the call of the message of this number, which is below 65,536, with these arguments
 abbrev pub resolved_at : TheInterface → List Datum → Option ℕ → Result TheCall ValueFault
 resolved_at i values None = Err NoSuchMessage
 resolved_at i values (Some k) = if nat_lt k 65536 then where_fitting i (record { msg = k; args = values }) else Err NoSuchMessage

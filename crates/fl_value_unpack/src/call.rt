@@ -12,7 +12,7 @@ use fl_value_data::{Call, PlanNo};
 use std::alloc::{AllocError, Global};
 
 /// The call of a message whose packed tape the bytes begin with, where they are known to begin with a fitting call's, as those
-/// are that prepared code takes from a payload that receive code has accepted. What follows is skipped.
+/// are that prepared send code, run backwards, takes from a payload that receive code has accepted. What follows is skipped.
 ///
 /// # Errors
 /// Out of memory (E99), and nothing else.
