@@ -118,14 +118,30 @@ static void by_stubs(uint64_t *call, size_t count, unsigned wanted)
     wants("nothing to read", fl_read_fed(&receiver, room, MOST, &got) || got, 0);
 }
 
-static void make_call(struct party *at)
+/* A fragment was put, and so many follow. */
+static void wrote(struct party *at, struct party *other, uint64_t left)
 {
-    uint64_t call[MOST];
+    at->written++, other->waiting++;
+    fprintf(transcript, "written %u of %u\n", at->written, at->written + (unsigned)left);
+    if (!left) at->written = 0;
+}
+
+/* A call by itself, or with its first write in one. */
+static void make_call(struct party *at, struct party *other)
+{
+    uint64_t call[MOST], left = 0;
+    unsigned came = FL_IDLE, fault;
     size_t count = some_call(call);
+    int sends = pick(2) && other->waiting <= 400;
     fprintf(script, "call %s ", at->name);
     print_call(script, call, count);
-    unsigned fault = fl_call(&at->end, call, count);
+    fault = sends ? fl_send(&at->end, call, count, &came, &left) : fl_call(&at->end, call, count);
     tell(fault, "accepted");
+    wants("what a send came to", came, sends && !fault ? FL_WROTE : FL_IDLE);
+    if (came == FL_WROTE) {
+        fprintf(script, "write %s\n", at->name);
+        wrote(at, other, left);
+    }
     by_stubs(call, count, fault == FL_BUSY ? 0 : fault);
 }
 
@@ -137,13 +153,14 @@ static void write_one(struct party *at, struct party *other)
     fprintf(script, "write %s\n", at->name);
     wants("a write", fl_write(&at->end, &came, &left), 0);
     if (came == FL_NO_ROOM) stop("no room");
-    if (came == FL_IDLE) {
-        fputs("nothing\n", transcript);
-        return;
-    }
-    at->written++, other->waiting++;
-    fprintf(transcript, "written %u of %u\n", at->written, at->written + (unsigned)left);
-    if (!left) at->written = 0;
+    if (came == FL_WROTE) wrote(at, other, left);
+    else fputs("nothing\n", transcript);
+}
+
+static void tell_call(struct party *at, const uint64_t *call, size_t count)
+{
+    fprintf(transcript, "handle %s ", at->name);
+    print_call(transcript, call, count);
 }
 
 static void read_call(struct party *at)
@@ -151,28 +168,47 @@ static void read_call(struct party *at)
     uint64_t call[MOST], count, again;
     unsigned came;
     wants("a receive before a read", fl_receive(&at->end, &came), FL_UNREAD);
+    wants("a take before a read", fl_take_call(&at->end, call, MOST, &came, &count), FL_UNREAD);
+    wants("what that came to", came, FL_EMPTY);
     wants("room for one number", fl_read(&at->end, call, 1, &count), FL_WRONG_ROOM);
     uint64_t *room = malloc(count * sizeof *room);
     wants("room for one too few", fl_read(&at->end, room, count - 1, &again), FL_WRONG_ROOM);
     if (again != count) stop("another count");
     wants("a read", fl_read(&at->end, room, count, &again), 0);
-    fprintf(transcript, "handle %s ", at->name);
-    print_call(transcript, room, count);
+    tell_call(at, room, count);
     free(room);
+}
+
+/* A receive by itself, or with its read in one, which may have too little room. */
+static unsigned receive(struct party *at, uint64_t *call, uint64_t *count, int *is_read)
+{
+    unsigned came, fault;
+    *is_read = pick(2) != 0;
+    if (!*is_read) {
+        wants("a receive", fl_receive(&at->end, &came), 0);
+        return came;
+    }
+    fault = fl_take_call(&at->end, call, pick(4) ? MOST : 1, &came, count);
+    if (fault == FL_WRONG_ROOM && came == FL_CALL && *count > 1) *is_read = 0;
+    else wants("a take of a call", fault, 0);
+    return came;
 }
 
 static void turn(struct party *at)
 {
+    uint64_t call[MOST], count;
     unsigned came;
+    int is_read;
     fprintf(script, "turn %s\n", at->dispatcher);
-    do wants("a receive", fl_receive(&at->end, &came), 0);
+    do came = receive(at, call, &count, &is_read);
     while (came == FL_ACKNOWLEDGED);
     fl_tell_end(&at->end);
     if (came == FL_EMPTY || (came == FL_HELD_BACK && !at->waiting)) fputs("nothing\n", transcript);
     else if (came == FL_HELD_BACK) fputs("full\n", transcript);
     else at->waiting--;
     if (came == FL_PART) fprintf(transcript, "part %s\n", at->name);
-    if (came == FL_CALL) read_call(at);
+    if (came == FL_CALL && is_read) tell_call(at, call, count);
+    else if (came == FL_CALL) read_call(at);
 }
 
 static void set_rule(struct party *at)
@@ -215,14 +251,15 @@ static void mistake(struct party *at)
     unsigned came;
     fl_end none = { 0 };
     fl_side side = { at->end.at };
-    switch (pick(15)) {
+    switch (pick(18)) {
     case 0: wants("no end", fl_call(&none, numbers, 1), FL_NULL); break;
     case 1: wants("no numbers", fl_call(&at->end, 0, 1), FL_NULL); break;
     case 2: wants("no number", fl_call(&at->end, numbers, 0), FL_WRONG_ROOM); break;
     case 3: wants("no place", fl_receive(&at->end, 0), FL_NULL); break;
     case 4: wants("a put at an end", fl_put(&side, numbers), FL_NO_SUCH_OPERATION); break;
     case 5: wants("a take at an end", fl_take(&side, numbers, &came), FL_NO_SUCH_OPERATION); break;
-    case 6: wants("no operation", flounder_use(at->end.at, 12 + pick(9), numbers, pick(9)).fault, FL_NO_SUCH_OPERATION); break;
+    case 6: wants("no operation", flounder_use(at->end.at, (pick(2) ? 12 : 18) + pick(4), numbers, pick(9)).fault,
+        FL_NO_SUCH_OPERATION); break;
     case 7: wants("a rule of three", flounder_use(at->end.at, 10, numbers, 3).fault, FL_WRONG_ROOM); break;
     case 8: wants("no such message", fl_sizes(&program, 4 + pick(9), numbers, &came), FL_NO_SUCH_MESSAGE); break;
     case 9: wants("sizes of nothing", flounder_use(program.at, 13, numbers, 2).fault, FL_WRONG_ROOM); break;
@@ -230,6 +267,10 @@ static void mistake(struct party *at)
     case 11: wants("a run of an end", flounder_make_run(at->end.at, 1, &none.at).fault, FL_NO_SUCH_OPERATION); break;
     case 12: wants("a short fragment", flounder_use(receiver.at, 15, numbers, pick(8)).fault, FL_WRONG_ROOM); break;
     case 13: by_ring(); break;
+    case 14: wants("a send of no numbers", fl_send(&at->end, 0, 1, &came, 0), FL_NULL); break;
+    case 15: wants("a send of no number", fl_send(&at->end, numbers, 0, &came, 0), FL_WRONG_ROOM); break;
+    case 16: wants("a take of a call at a side", fl_take_call(&(fl_end){ receiver.at }, numbers, 9, &came, &count),
+        FL_NO_SUCH_OPERATION); break;
     default: wants("nothing to read", fl_read(&at->end, numbers, pick(9), &count) || count, 0);
     }
     if (none.at) stop("a handle that wasn't made");
@@ -248,7 +289,7 @@ int main(int argc, char **argv)
         unsigned which = (unsigned)pick(2);
         struct party *at = &party[which], *other = &party[1 - which];
         switch (pick(12)) {
-        case 0: case 1: case 2: make_call(at); break;
+        case 0: case 1: case 2: make_call(at, other); break;
         case 3: case 4: case 5: write_one(at, other); break;
         case 6: case 7: case 8: turn(at); break;
         case 9: if (pick(8) == 0) set_rule(at); break;
