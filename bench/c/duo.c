@@ -1,6 +1,7 @@
-/* A ring of two directions in one thread: puts and takes from C, the same loop within the archive, and puts and takes of
- * plain C (`plain.c`), in turn. Prints the medians of a put with its take, in ns, and their ratios. `duo ours` and `duo plain`
- * do ten runs of one side alone, whose instructions can be counted. */
+/* A ring of two directions in one thread: puts and takes from C, the same loop within the archive, in line and by calls, and
+ * puts and takes of plain C (`plain.c`), in turn. Prints the medians of a put with its take, in ns, and their ratios. Each
+ * fragment has seven different numbers that were drawn before, none of which can be had of another. `duo ours` and
+ * `duo plain` do ten runs of one side alone, whose instructions can be counted. */
 #include <flounder.h>
 #include <stdio.h>
 #include <stdlib.h>
@@ -8,7 +9,8 @@
 #include <time.h>
 
 /* bench/ffi/flounder_bench.rattle */
-uint64_t flounder_shared_duo(size_t slots, uint64_t rounds, uint64_t batch);
+uint64_t flounder_duo_of_numbers(size_t slots, uint64_t rounds, uint64_t batch, const uint64_t *numbers, size_t count);
+uint64_t flounder_duo_by_calls(size_t slots, uint64_t rounds, uint64_t batch, const uint64_t *numbers, size_t count);
 
 /* plain.c */
 struct plain_side;
@@ -19,9 +21,10 @@ unsigned plain_take(struct plain_side *side, uint64_t fragment[8]);
 /* Short runs, so that most end before other work takes the processor. */
 enum { SLOTS = 64, ROUNDS = 500, BATCH = 16, RUNS = 901 };
 
-static uint64_t sum_of(const uint64_t fragment[8])
+/* Each number by itself, as the loops in Rattle read them. */
+static uint64_t read_of(const uint64_t f[8])
 {
-    return fragment[0] + fragment[1] + fragment[2] + fragment[3] + fragment[4] + fragment[5] + fragment[6];
+    return f[0] + (f[1] ^ (f[2] + (f[3] ^ (f[4] + (f[5] ^ f[6])))));
 }
 
 static unsigned our_take(fl_side *side, uint64_t fragment[8])
@@ -31,18 +34,20 @@ static unsigned our_take(fl_side *side, uint64_t fragment[8])
     return sight;
 }
 
+/* The numbers of all fragments, seven each: those of a round begin with the second fragment of the round before. */
+static uint64_t numbers[7 * (ROUNDS + BATCH)];
+
 /* A batch from one side to the other, of which each fragment is made, put, taken and read. */
 #define OVER(NAME, SIDE, PUT, TAKE) \
-    static uint64_t NAME(SIDE *from, SIDE *to, uint64_t round) \
+    static uint64_t NAME(SIDE *from, SIDE *to, const uint64_t *v) \
     { \
         uint64_t sum = 0, fragment[8]; \
-        for (uint64_t k = 0; k < BATCH; k++) { \
-            uint64_t v = round + k; \
-            uint64_t next[8] = { v, v, v, v, v, v, v, 2 }; \
+        for (uint64_t k = 0; k < BATCH; k++, v += 7) { \
+            uint64_t next[8] = { v[0], v[1], v[2], v[3], v[4], v[5], v[6], 2 }; \
             PUT(from, next); \
         } \
         for (uint64_t k = 0; k < BATCH; k++) \
-            if (TAKE(to, fragment) == FL_FRAGMENT) sum += sum_of(fragment); \
+            if (TAKE(to, fragment) == FL_FRAGMENT) sum += read_of(fragment); \
         return sum; \
     }
 
@@ -55,8 +60,8 @@ static uint64_t from_c(void)
     uint64_t sum = 0;
     if (fl_duo(SLOTS, &one, &two)) return 0;
     for (uint64_t round = 0; round < ROUNDS; round++) {
-        sum += over(&one, &two, round);
-        sum += over(&two, &one, round);
+        sum += over(&one, &two, numbers + 7 * round);
+        sum += over(&two, &one, numbers + 7 * round);
     }
     fl_free_side(&one);
     fl_free_side(&two);
@@ -69,15 +74,21 @@ static uint64_t plain_c(void)
     uint64_t sum = 0;
     if (!one && !plain_duo(SLOTS, &one, &two)) return 0;
     for (uint64_t round = 0; round < ROUNDS; round++) {
-        sum += over_plain(one, two, round);
-        sum += over_plain(two, one, round);
+        sum += over_plain(one, two, numbers + 7 * round);
+        sum += over_plain(two, one, numbers + 7 * round);
     }
     return sum;
 }
 
 static uint64_t in_rattle(void)
 {
-    return flounder_shared_duo(SLOTS, ROUNDS, BATCH);
+    return flounder_duo_of_numbers(SLOTS, ROUNDS, BATCH, numbers, sizeof numbers / sizeof *numbers);
+}
+
+/* Its put and its take are calls there. */
+static uint64_t in_rattle_by_calls(void)
+{
+    return flounder_duo_by_calls(SLOTS, ROUNDS, BATCH, numbers, sizeof numbers / sizeof *numbers);
 }
 
 static double now(void)
@@ -95,9 +106,15 @@ static int by_size(const void *a, const void *b)
 
 int main(int argc, char **argv)
 {
-    static uint64_t (*const runs[])(void) = { from_c, in_rattle, plain_c };
-    static double times[3][RUNS];
-    double middle[3];
+    static uint64_t (*const runs[])(void) = { from_c, in_rattle, plain_c, in_rattle_by_calls };
+    enum { SIDES = sizeof runs / sizeof *runs };
+    static double times[SIDES][RUNS];
+    double middle[SIDES];
+    uint64_t x = 88172645463325252;
+    for (size_t k = 0; k < sizeof numbers / sizeof *numbers; k++) {
+        x ^= x << 13, x ^= x >> 7, x ^= x << 17;
+        numbers[k] = x;
+    }
     if (argc > 1) {
         int plain = !strcmp(argv[1], "plain");
         for (int run = 0; run < 10; run++)
@@ -105,17 +122,18 @@ int main(int argc, char **argv)
         return 0;
     }
     uint64_t wanted = from_c();
-    for (int run = 0; run < 3 * RUNS; run++) {
+    for (int run = 0; run < SIDES * RUNS; run++) {
         double start = now();
-        uint64_t sum = runs[run % 3]();
-        times[run % 3][run / 3] = (now() - start) / (2.0 * ROUNDS * BATCH);
+        uint64_t sum = runs[run % SIDES]();
+        times[run % SIDES][run / SIDES] = (now() - start) / (2.0 * ROUNDS * BATCH);
         if (sum != wanted || !sum) return 1;
     }
-    for (int k = 0; k < 3; k++) {
+    for (int k = 0; k < SIDES; k++) {
         qsort(times[k], RUNS, sizeof *times[k], by_size);
         middle[k] = times[k][RUNS / 2];
     }
-    printf("put and take of a duo: from C %.1f ns, within the archive %.1f ns: %.2f; plain C by calls %.1f ns: %.2f\n",
-        middle[0], middle[1], middle[1] / middle[0], middle[2], middle[2] / middle[0]);
+    printf("put and take of a duo: from C %.1f ns; in Rattle, in line %.1f ns: %.2f; in Rattle by calls %.1f ns: %.2f; plain C by calls "
+           "%.1f ns: %.2f\n",
+        middle[0], middle[1], middle[1] / middle[0], middle[3], middle[3] / middle[0], middle[2], middle[2] / middle[0]);
     return 0;
 }
