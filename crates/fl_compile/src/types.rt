@@ -7,7 +7,7 @@ ghost use Rattle.fl_interface.specs.Limits.{is_well_made, are_well_made};
 ghost use Rattle.fl_stub.specs.Structure.{finished, next, times, block_ops};
 ghost use Rattle.fl_compile.specs.Compiled.{scalar_op, enum_op, pad_op, zeros_then, type_then, fields_then};
 
-use fl_interface::{FixedType, Scalar, greatest_alignment};
+use fl_interface::{FixedType, Measures, Scalar, greatest_alignment};
 use fl_stub::{Column, Op};
 use std::alloc::AllocError;
 
@@ -110,11 +110,10 @@ fn push_fields(ops: &mut Vec<Op>, column: Column, fields: &[FixedType]) -> Resul
 {
     let mut at: u32 = 0;
     for field in fields {
-        let align = field.alignment();
+        let Measures { size, align } = field.measures();
         let start = at.next_multiple_of(align);
         push_zeros(ops, column, start - at)?;
         push_type(ops, column, field)?;
-        let size = field.size();
         at = start + size;
     }
     let greatest = greatest_alignment(fields);

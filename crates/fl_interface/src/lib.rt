@@ -25,5 +25,5 @@ pub use limits::{
     MAX_TYPE_DEPTH, MAX_TYPE_SIZE, MAX_TYPES,
 };
 pub use same::same_args;
-pub use sizes::{ENUM_SIZE, greatest_alignment, next_multiple};
+pub use sizes::{ENUM_SIZE, Measures, greatest_alignment, next_multiple};
 pub use word::Word;

@@ -51,24 +51,57 @@ impl Scalar {
     }
 }
 
+/// A type's size and alignment, in bytes.
+#[derive(Clone, Copy, Debug, PartialEq, Eq)]
+pub struct Measures {
+    /// The bytes of a value, a struct's padding counted.
+    pub size: u32,
+    /// Where a value may begin: 1, 2, 4 or 8.
+    pub align: u32,
+}
+
 impl FixedType {
-    /// The bytes of a value, a struct's padding counted. It goes over the whole type.
+    /// The size and the alignment, in one pass over the type.
     #[cycle(sizes)]
+    pub fn measures(&self) -> Measures
+        requires fits { size_of (type_of self.now) < 2 ^ 32 }
+        ensures size { result.size ≡ size_of (type_of self.now) }
+        ensures align { result.align ≡ align_of (type_of self.now) }
+        ensures some { 0 < result.align }
+        ensures few { result.align ≤ 8 }
+    {
+        match self {
+            FixedType::Scalar(scalar) => {
+                let size = scalar.size();
+                Measures { size, align: size }
+            }
+            FixedType::Enumeration(_) => Measures {
+                size: ENUM_SIZE,
+                align: ENUM_SIZE,
+            },
+            FixedType::Structure(fields) => measures_of_fields(fields),
+            FixedType::Array(count, element) => {
+                if *count == 0 {
+                    return Measures {
+                        size: 0,
+                        align: element.alignment(),
+                    };
+                }
+                let Measures { size, align } = element.measures();
+                Measures {
+                    size: count * size,
+                    align,
+                }
+            }
+        }
+    }
+
+    /// The bytes of a value, a struct's padding counted. It goes over the whole type.
     pub fn size(&self) -> u32
         requires fits { size_of (type_of self.now) < 2 ^ 32 }
         ensures exact { result ≡ size_of (type_of self.now) }
     {
-        match self {
-            FixedType::Scalar(scalar) => scalar.size(),
-            FixedType::Enumeration(_) => ENUM_SIZE,
-            FixedType::Structure(fields) => size_of_fields(fields),
-            FixedType::Array(count, element) => {
-                if *count == 0 {
-                    return 0;
-                }
-                count * element.size()
-            }
-        }
+        self.measures().size
     }
 
     /// Where a value may begin, in bytes: 1, 2, 4 or 8. It goes over the whole type.
@@ -101,15 +134,24 @@ pub fn greatest_alignment(fields: &[FixedType]) -> u32
     greatest
 }
 
-/// The bytes of the struct of these fields: each at its alignment, and the whole rounded up to the struct's.
+/// The measures of the struct of these fields: each at its alignment, and the whole rounded up to the struct's.
 #[cycle(sizes)]
-fn size_of_fields(fields: &[FixedType]) -> u32
+fn measures_of_fields(fields: &[FixedType]) -> Measures
     requires fits { size_of (structure (fields_from (map type_of fields.now))) < 2 ^ 32 }
-    ensures exact { result ≡ size_of (structure (fields_from (map type_of fields.now))) }
+    ensures size { result.size ≡ size_of (structure (fields_from (map type_of fields.now))) }
+    ensures align { result.align ≡ greatest_align (fields_from (map type_of fields.now)) }
+    ensures some { 0 < result.align }
+    ensures few { result.align ≤ 8 }
 {
     let mut end: u32 = 0;
+    let mut greatest: u32 = 1;
     for field in fields {
-        end = end.next_multiple_of(field.alignment()) + field.size();
+        let Measures { size, align } = field.measures();
+        end = end.next_multiple_of(align) + size;
+        greatest = align.max(greatest);
     }
-    end.next_multiple_of(greatest_alignment(fields))
+    Measures {
+        size: end.next_multiple_of(greatest),
+        align: greatest,
+    }
 }

@@ -28,15 +28,15 @@ push_fields-loop-field-init t c = record { known = record { ended = refl; made =
 pub push_fields-next_multiple_of-start-requires-clause-fits : goal.push_fields-next_multiple_of-start-requires-clause-fits
 push_fields-next_multiple_of-start-requires-clause-fits t c =
     let f = field_at type_of c.args.fields.now c.loop-field.field-index c.loop-field.at c.field-item.result c.loop-field-test.true c.field-item.is c.requires.small c.loop-field.invariant.known in
-    omega (arith, f.before, c.alignment-align.ensures.few, c.alignment-align.ensures.some)
+    omega (arith, f.before, c.measures-size.ensures.few, c.measures-size.ensures.some)
 
 pub push_fields-push_type-requires : goal.push_fields-push_type-requires
 push_fields-push_type-requires t c =
     let f = field_at type_of c.args.fields.now c.loop-field.field-index c.loop-field.at c.field-item.result c.loop-field-test.true c.field-item.is c.requires.small c.loop-field.invariant.known in
     (search (rules, the_lemmas), (f.made, f.size))
 
-pub push_fields-size-size-requires : goal.push_fields-size-size-requires
-push_fields-size-size-requires t c =
+pub push_fields-measures-size-requires : goal.push_fields-measures-size-requires
+push_fields-measures-size-requires t c =
     let f = field_at type_of c.args.fields.now c.loop-field.field-index c.loop-field.at c.field-item.result c.loop-field-test.true c.field-item.is c.requires.small c.loop-field.invariant.known in
     omega (arith, f.size)
 
@@ -44,8 +44,8 @@ pub push_fields-overflow_add-at : goal.push_fields-overflow_add-at
 push_fields-overflow_add-at t c =
     let f = field_at type_of c.args.fields.now c.loop-field.field-index c.loop-field.at c.field-item.result c.loop-field-test.true c.field-item.is c.requires.small c.loop-field.invariant.known in
     let at : c.next_multiple_of-start.result ≡ round_up c.loop-field.at (align_of (type_of c.field-item.result))
-    = c.next_multiple_of-start.ensures.value ∙ ap (round_up c.loop-field.at) c.alignment-align.ensures.exact in
-    omega (arith, f.after, c.size-size.ensures.exact, at)
+    = c.next_multiple_of-start.ensures.value ∙ ap (round_up c.loop-field.at) c.measures-size.ensures.align in
+    omega (arith, f.after, c.measures-size.ensures.size, at)
 
 pub push_fields-loop-field-preserved : goal.push_fields-loop-field-preserved
 push_fields-loop-field-preserved t c =
@@ -55,13 +55,13 @@ push_fields-loop-field-preserved t c =
     let inv = c.loop-field.invariant in
     let known = field_at type_of c.args.fields.now c.loop-field.field-index c.loop-field.at c.field-item.result c.loop-field-test.true c.field-item.is c.requires.small c.loop-field.invariant.known in
     let start : c.next_multiple_of-start.result ≡ round_up c.loop-field.at (align_of (type_of f))
-    = c.next_multiple_of-start.ensures.value ∙ ap (round_up c.loop-field.at) c.alignment-align.ensures.exact in
-    let after : c.next_multiple_of-start.result + c.size-size.result ≡ round_up c.loop-field.at (align_of (type_of f)) + size_of (type_of f)
-    = both_sums start c.size-size.ensures.exact in
+    = c.next_multiple_of-start.ensures.value ∙ ap (round_up c.loop-field.at) c.measures-size.ensures.align in
+    let after : c.next_multiple_of-start.result + c.measures-size.result.size ≡ round_up c.loop-field.at (align_of (type_of f)) + size_of (type_of f)
+    = both_sums start c.measures-size.ensures.size in
     record {
-      known = next_field type_of fields k c.loop-field.at f (c.next_multiple_of-start.result + c.size-size.result) known after;
+      known = next_field type_of fields k c.loop-field.at f (c.next_multiple_of-start.result + c.measures-size.result.size) known after;
       written = field_written type_of fields k f c.args.column (greatest_align (fields_from (map type_of fields))) c.loop-field.at
-          (c.next_multiple_of-start.result - c.loop-field.at) (c.next_multiple_of-start.result + c.size-size.result)
+          (c.next_multiple_of-start.result - c.loop-field.at) (c.next_multiple_of-start.result + c.measures-size.result.size)
           c.loop-field.ops.items c.push_zeros.new.ops.items c.push_type.new.ops.items
           c.loop-field-test.true c.field-item.is (ap (λ (n : ℕ). n - c.loop-field.at) start) after
           c.in_ok-push_zeros.ensures.ops c.in_ok-push_type.ensures.ops
