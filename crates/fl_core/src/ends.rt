@@ -16,7 +16,7 @@ use crate::{AckAnswer, BoardFault, TurnAnswer};
 use fl_base::{Frag, MsgNo};
 use fl_endpoint::{End, EndFault, WriteAnswer};
 use fl_link::{PutSide, TakeSide};
-use fl_value_data::Call;
+use fl_value_data::{Call, Value};
 use std::alloc::AllocError;
 
 impl Core {
@@ -30,6 +30,14 @@ impl Core {
         ensures kept { OnErr result (self.new ≡ self.old) }
     {
         self.board.call(e, call)
+    }
+
+    /// Takes back the list of a call that was done with: the next call of one fragment stands in its memory. Its values are dropped then.
+    #[inline(always)]
+    pub fn give_back(&mut self, values: Vec<Value>)
+        ensures same { self.new ≡ self.old }
+    {
+        self.board.give_back(values);
     }
 
     /// Sets a reply rule at an end ([`fl_endpoint::End::reply_rule`]). Takes no memory.

@@ -23,7 +23,7 @@ use fl_endpoint::{
 };
 use fl_link::PutSide;
 use fl_machine::Reassemblies;
-use fl_value_data::Call;
+use fl_value_data::{Call, Value};
 use std::alloc::{AllocError, Global};
 use std::marker::Model;
 
@@ -262,6 +262,14 @@ impl Board {
         law_call_accounts();
         let seat = &mut self.seats[e];
         seat.end.call(call, &mut self.spare)
+    }
+
+    /// Takes back the list of a call that was done with: the next call of one fragment stands in its memory. Its values are dropped then.
+    #[inline(always)]
+    pub fn give_back(&mut self, values: Vec<Value>)
+        ensures same { self.new ≡ self.old }
+    {
+        self.calls.give_back(values);
     }
 
     /// The fragment that [`Board::write`] would put next ([`End::show`]).

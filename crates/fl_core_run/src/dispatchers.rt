@@ -57,7 +57,12 @@ fn note<S: CoreSides>(
             run.idle = 0;
             match progress {
                 None => Ok(()),
-                Some(place) => run.progresses[place].take(run.alloc, call),
+                Some(place) => {
+                    let mut call = call;
+                    run.progresses[place].take(run.alloc, &mut call)?;
+                    run.core.give_back(call.args);
+                    Ok(())
+                }
             }
         }
         TurnAnswer::Part | TurnAnswer::Ready => {

@@ -74,12 +74,12 @@ impl EndProgress {
         self.done += 1;
     }
 
-    // A call was handled at its end.
-    pub(crate) fn take(&mut self, alloc: Global, call: Call) -> Result<(), AllocError>
-        ensures taken { OnOk result (self.new ≡ with_handled call self.old) }
+    // A call was handled at its end. Its list is left, for the core's next call.
+    pub(crate) fn take(&mut self, alloc: Global, call: &mut Call) -> Result<(), AllocError>
+        ensures taken { OnOk result (self.new ≡ with_handled call.old self.old) }
         ensures kept { OnErr result (self.new ≡ self.old) }
     {
-        let call = CompactCall::keep(alloc, call)?;
+        let call = CompactCall::take(alloc, call)?;
         let Ok(()) = self.handled.push(call) else {
             return Err(AllocError);
         };

@@ -13,8 +13,10 @@ use crate::rooms::Rooms;
 use fl_base::Frag;
 use fl_compile::Program;
 use fl_compile_tape::ReadingRoom;
+use fl_value_data::Value;
 use std::alloc::{AllocError, Global};
 use std::marker::Model;
+use std::mem;
 
 // What is stored at all places. A place's room is there once a call came that wants one: most calls of one fragment don't.
 #[derive(Drop)]
@@ -26,6 +28,8 @@ pub(crate) struct ReassemblyPlaces {
     numbers: [u64; 56],
     // Where calls of several fragments are read.
     reading: ReadingRoom,
+    // The list of a call that was done with: the next call of one fragment stands in it.
+    spare: Vec<Value>,
 }
 
 /// Calls that are put together again from their fragments, at many places: each has a program, and of its call under way the
@@ -140,7 +144,8 @@ impl ReassemblyPlaces {
         let Some(ended) = begin_straight(program, &mut numbers, frag) else {
             return self.take_begun(place, frag);
         };
-        tell(self.alloc, program, ended, &numbers, frag)
+        let room = mem::replace(&mut self.spare, Vec::new(self.alloc));
+        tell(self.alloc, room, program, ended, &numbers, frag)
     }
 
     // Takes a fragment at a place.
@@ -182,6 +187,7 @@ impl Reassemblies {
                 rooms: Rooms::new(alloc),
                 numbers: [0; 56],
                 reading: ReadingRoom::new(alloc),
+                spare: Vec::new(alloc),
             },
         }
     }
@@ -229,6 +235,14 @@ impl Reassemblies {
         ensures kept { OnErr result (self.new ≡ self.old) }
     {
         self.stored.take(place, frag)
+    }
+
+    /// Takes back the list of a call that was done with: the next call of one fragment stands in its memory. Its values are dropped then.
+    #[inline(always)]
+    pub fn give_back(&mut self, values: Vec<Value>)
+        ensures same { self.new ≡ self.old }
+    {
+        self.stored.spare = values;
     }
 
     /// Done with the call under way at a place: the next fragment there is to begin another.

@@ -17,7 +17,7 @@ use crate::recv::{PartialCall, TapedCall, begin, look_on, whole};
 use fl_base::Frag;
 use fl_compile::Program;
 use fl_compile_tape::{ReadingRoom, call_of_frags};
-use fl_value_data::Call;
+use fl_value_data::{Call, Value};
 use fl_wire::WireFault;
 use std::alloc::{AllocError, Global};
 use thiserror::Error;
@@ -74,6 +74,7 @@ pub(crate) fn has_few_args(program: &Program, frag: &Frag) -> bool {
 #[inline(always)]
 pub(crate) fn tell(
     alloc: Global,
+    room: Vec<Value>,
     program: &Program,
     ended: TapedCall,
     tape: &[u64],
@@ -84,7 +85,7 @@ pub(crate) fn tell(
     ensures takes { Takes (new_reassembly program.now) frag.now result (new_reassembly program.now) }
 {
     let _plan = program.plan();
-    match whole(alloc, program, ended, tape) {
+    match whole(alloc, room, program, ended, tape) {
         Ok(call) => Ok(Taken::Whole(call)),
         Err(_) => Err(TakeFault::Memory),
     }
@@ -181,7 +182,14 @@ fn take_begun(
             *under = Some(begun);
             keep(program, &begun, room, frag)
         }
-        Ok(Fed::Whole) => tell(alloc, program, begun.to_ended(), &*numbers, frag),
+        Ok(Fed::Whole) => tell(
+            alloc,
+            Vec::new(alloc),
+            program,
+            begun.to_ended(),
+            &*numbers,
+            frag,
+        ),
         Err(fault) => Err(TakeFault::Wire(fault)),
     }
 }

@@ -20,7 +20,7 @@ use crate::straight::take_straight;
 use fl_base::{FRAG_BYTES, Frag, MsgNo};
 use fl_compile::{Program, law_tells_faults};
 use fl_stub::ByteKind;
-use fl_value_data::{Call, unflatten};
+use fl_value_data::{Call, Value, unflatten_in};
 use fl_wire::{WireFault, follow_fault, is_line, start_fault};
 use std::alloc::{AllocError, Global};
 use std::marker::Model;
@@ -342,6 +342,7 @@ pub(crate) fn look_on(
 #[inline(always)]
 pub(crate) fn whole(
     alloc: Global,
+    room: Vec<Value>,
     program: &Program,
     ended: TapedCall,
     tape: &[u64],
@@ -352,7 +353,7 @@ pub(crate) fn whole(
 {
     let tape = &tape[..ended.count];
     let interface = program.interface();
-    match unflatten(alloc, ended.msg, tape, interface, program.plan())? {
+    match unflatten_in(alloc, room, ended.msg, tape, interface, program.plan())? {
         Some(call) => Ok(call),
         None => unreachable!(),
     }
@@ -569,7 +570,13 @@ impl RecvRun {
         let Phase::Done(ended) = self.stored.phase else {
             unreachable!();
         };
-        whole(alloc, &self.program, ended, &self.stored.tape)
+        whole(
+            alloc,
+            Vec::new(alloc),
+            &self.program,
+            ended,
+            &self.stored.tape,
+        )
     }
 
     /// The tape of the call that the last fragment fed made whole: its numbers in the plan's order. Takes no memory.

@@ -22,5 +22,5 @@ pub use fitting::{are_text_bytes, fits, has_type};
 pub use law::{law_one_call_of_a_tape, law_rank_by_rank};
 pub use order::RANKS;
 pub use tape::{flatten, flatten_into};
-pub use untape::unflatten;
+pub use untape::{unflatten, unflatten_in};
 pub use value::{Call, PlanNo, Value};

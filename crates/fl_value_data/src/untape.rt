@@ -427,20 +427,32 @@ fn read_ranks<'a>(
     Ok(Some((values, rest)))
 }
 
-/// All arguments in the plan's order, and what follows them on the tape. `kept` tells whether that order is the declared one.
+/// A list without values, in memory that was used before, with room for so many.
+fn emptied(room: Vec<Value>, count: usize) -> Result<Vec<Value>, AllocError>
+    ensures items { IfOk result (λ values. values.items ≡ []) }
+{
+    let mut values = room;
+    values.clear();
+    values.reserve(count)?;
+    Ok(values)
+}
+
+/// All arguments in the plan's order, and what follows them on the tape, in the memory of `room` where that order is the declared one.
+/// `kept` tells whether that order is the declared one.
 fn read_arguments<'a>(
     alloc: Global,
     tape: &'a [u64],
     plan: PlanNo,
     kept: bool,
     arguments: &[ArgType],
+    room: Vec<Value>,
 ) -> Result<Option<(Vec<Value>, &'a [u64])>, AllocError>
     requires kept { kept ≡ never_falls plan (arg_types arguments.now) }
     ensures found { IfOk result (λ o. IfSome o (λ r. TheValues (InTurn ArgumentAt (planned_types plan (arg_types arguments.now)) tape.now) r.0.items r.1.now)) }
     ensures none { IfOk result (λ o. IfNone o (NoneOf (InTurn ArgumentAt (planned_types plan (arg_types arguments.now)) tape.now))) }
 {
     if kept {
-        let values = Vec::with_capacity(alloc, arguments.len())?;
+        let values = emptied(room, arguments.len())?;
         return read_rank(alloc, tape, PlanNo::One, 0, arguments, values);
     }
     read_ranks(alloc, tape, arguments)
@@ -463,11 +475,33 @@ pub fn unflatten(
     ensures none { IfOk result (λ o. IfNone o ((c : TheCall) → HasTape plan (interface_of interface.now) msg.0 tape.now c → ⊥)) }
     ensures only { IfOk result (λ o. (c : TheCall) → HasTape plan (interface_of interface.now) msg.0 tape.now c → option_map call_of o ≡ Some c) }
 {
+    unflatten_in(alloc, Vec::new(alloc), msg, tape, interface, plan)
+}
+
+/// As [`unflatten`]; the call's arguments stand in the memory of `room`, whose own values are dropped, where the plan's order is the
+/// declared one.
+///
+/// # Errors
+///
+/// Where memory runs out.
+pub fn unflatten_in(
+    alloc: Global,
+    room: Vec<Value>,
+    msg: MsgNo,
+    tape: &[u64],
+    interface: &Interface,
+    plan: PlanNo,
+) -> Result<Option<Call>, AllocError>
+    ensures some { IfOk result (λ o. IfSome o (λ c. HasTape plan (interface_of interface.now) msg.0 tape.now (call_of c))) }
+    ensures none { IfOk result (λ o. IfNone o ((c : TheCall) → HasTape plan (interface_of interface.now) msg.0 tape.now c → ⊥)) }
+    ensures only { IfOk result (λ o. (c : TheCall) → HasTape plan (interface_of interface.now) msg.0 tape.now c → option_map call_of o ≡ Some c) }
+{
     let Some(message) = interface.messages.get(usize::from(msg.0)) else {
         return Ok(None);
     };
     let kept = plan.never_falls(&message.args);
-    let Some((arranged, rest)) = read_arguments(alloc, tape, plan, kept, &message.args)? else {
+    let Some((arranged, rest)) = read_arguments(alloc, tape, plan, kept, &message.args, room)?
+    else {
         return Ok(None);
     };
     if !rest.is_empty() {

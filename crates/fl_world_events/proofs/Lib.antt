@@ -9,3 +9,4 @@ pub mod Splitting
 pub mod RingEnds
 pub mod Queued
 pub mod Routes
+pub mod GivenBack

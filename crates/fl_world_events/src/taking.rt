@@ -30,6 +30,7 @@ use fl_ring::{OneDuo, law_forgets_looks};
 use fl_value_data::Call;
 use fl_world_refines::Binding;
 use std::alloc::AllocError;
+use std::mem;
 
 // ---- turns
 
@@ -44,14 +45,17 @@ pub struct DueEnd {
     pub name: EndId,
 }
 
-// What is answered for a turn that looked at an end. A call that was handled takes the place of the one of before.
+// What is answered for a turn that looked at an end. A call that was handled takes the place of one of before, whose list is
+// the core's for its next call.
 #[inline(always)]
-fn answer_turn(answer: TurnAnswer, end: EndId, handled: &mut Call) -> TurnedAnswer
+fn answer_turn(core: &mut Core, answer: TurnAnswer, end: EndId, handled: &mut Call) -> TurnedAnswer
     ensures turned { turned_of result (call_of handled.new) ≡ turn_answer end answer }
+    ensures same { core.new ≡ core.old }
 {
     match answer {
         TurnAnswer::Handle(call) => {
-            *handled = call;
+            let before = mem::replace(handled, call);
+            core.give_back(before.args);
             TurnedAnswer::Handle(end)
         }
         TurnAnswer::Part => TurnedAnswer::Part(end),
@@ -97,7 +101,7 @@ pub fn turn_by_queue(
     let answer = core.turn(at.dispatcher, at.end, queue);
     law_whole(core);
     match answer {
-        Ok(answer) => Ok(answer_turn(answer, at.name, handled)),
+        Ok(answer) => Ok(answer_turn(core, answer, at.name, handled)),
         Err(error) => Err(error),
     }
 }
@@ -149,7 +153,7 @@ pub fn turn_by_ring(
     let known = ring.known(which_at(m));
     law_sound(core, at.end);
     match turn_over(core, at, ring, m) {
-        Ok(answer) => Ok(answer_turn(answer, at.name, handled)),
+        Ok(answer) => Ok(answer_turn(core, answer, at.name, handled)),
         Err(error) => {
             law_forgets_looks();
             ring.forget(which_at(m), known);
@@ -176,7 +180,7 @@ pub fn turn_in(core: &mut Core, at: DueEnd, handled: &mut Call) -> Result<Turned
     let answer = core.turn_arrivals(at.dispatcher, at.end);
     law_whole(core);
     match answer {
-        Ok(answer) => Ok(answer_turn(answer, at.name, handled)),
+        Ok(answer) => Ok(answer_turn(core, answer, at.name, handled)),
         Err(error) => Err(error),
     }
 }

@@ -1,11 +1,13 @@
 use Rattle.fl_ring.specs.Side.{SideTakes}
+use Rattle.fl_world_events.proofs.GivenBack.{by_ring_left}
 use Rattle.fl_world_events.proofs.Wanting.{handles_call}
 use Rattle.fl_world_events.proofs.taking.turn_by_ring.Goals as goal
 
 pub returns-in-Ok-clause-turns : goal.returns-in-Ok-clause-turns
 returns-in-Ok-clause-turns c =
     let h = c.in-Ok.ensures.turns in
-    record {
+    by_ring_left c.answer_turn.ensures.same
+    (record {
       whole = h.whole;
       still = h.still;
       over = record {
@@ -15,7 +17,7 @@ returns-in-Ok-clause-turns c =
         event = (c.in-Ok.answer, c.law_sound.ensures.sound, h.over.event, c.answer_turn.ensures.turned);
         rest = h.over.rest;
       };
-    }
+    })
 
 pub returns-in-Err-clause-wants : goal.returns-in-Err-clause-wants
 returns-in-Err-clause-wants c =

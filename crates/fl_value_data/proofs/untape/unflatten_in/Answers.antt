@@ -8,7 +8,7 @@ use Rattle.fl_value_data.specs.Plan.{arranged, never_falls}
 use Rattle.fl_value_data.specs.Taken.{ArgumentAt, InTurn}
 use Rattle.fl_value_data.proofs.Ranked.{seconds_arranged}
 use Rattle.fl_value_data.proofs.Untaped.{as_many, all_types, call_found, call_only, call_none, call_past, is_empty, message_at}
-use Rattle.fl_value_data.proofs.untape.unflatten.Goals as goal
+use Rattle.fl_value_data.proofs.untape.unflatten_in.Goals as goal
 
 pub returns-in_default-2-clause-none : goal.returns-in_default-2-clause-none
 returns-in_default-2-clause-none c =
