@@ -8,7 +8,8 @@ use Rattle.fl_base.specs.declared.identity.Side.{Side}
 use Rattle.fl_base.specs.declared.identity.Side.TheVariants.{Client, Server}
 use Rattle.fl_base.specs.Given.{given}
 use Rattle.fl_model.specs.Events.{handle, opening_refused}
-use Rattle.fl_script_lines.specs.Answers.{answer_text, line}
+use Rattle.fl_script_lines.specs.Answers.{answer_text, end_named, line}
+use Rattle.fl_script_lines.specs.Names.{Names, message_name}
 use Rattle.fl_cores_file.specs.CoresFile.{CoresFile, numbered, end_by}
 use Rattle.fl_cores_file.specs.Report.{TheReport, Ending, complete, turns_out, at_end, refusal_of}
 
@@ -39,6 +40,10 @@ place_at_rank names rank = position (λ one. one == rank) (ranks_of names)
 
 abbrev pub end_at : ℕ → Side → EndId
 end_at binding side = record { binding = binding; side = side }
+
+-- what stands before the arguments of a call of a message that an end handled
+abbrev pub head_text : Names → EndId → ℕ → List ℕ
+head_text names e msg = codes "handle " ++ (end_named names e ++ (codes " " ++ (message_name names e msg ++ 40 ∷ [])))
 
 -- the calls that an end handled, a line each
 abbrev pub handled_text : CoresFile → TheReport → EndId → List ℕ

@@ -1,27 +1,30 @@
 //! What is printed of a cores file: the line that is refused, or the report of its run.
 
-ghost use Rattle.std.specs.Prelude.{◌≡◌, ◌≤◌, ◌++◌, ◌==◌, OnOk, OnErr, IfOk, map, length, position};
+ghost use Rattle.std.specs.Prelude.{◌≡◌, ◌≤◌, ◌++◌, ◌∷◌, [], ◌==◌, OnOk, OnErr, IfOk, map, length, position};
 ghost use Rattle.std.specs.List.{flat_map, range_with_len};
+ghost use Rattle.std.specs.Fmt.{decimal};
 ghost use Rattle.fl_base.specs.declared.identity.Side.TheVariants.{Client, Server};
 ghost use Rattle.fl_value_data.specs.Value.{call_of};
+ghost use Rattle.fl_compact_calls.specs.Held.{one_number};
 ghost use Rattle.fl_model.specs.Events.{handle, opening_refused};
 ghost use Rattle.fl_script_lines.specs.Answers.{answer_text, line};
 ghost use Rattle.fl_script_lines.specs.Tables.{table_of};
 ghost use Rattle.fl_script_lines.specs.Told.{names_of};
 ghost use Rattle.fl_cores_file.specs.Files.{file_from};
-ghost use Rattle.fl_cores_file.specs.Printed.{refusal_text, comes_before, rank_of, ranks_of, end_at, handled_text};
+ghost use Rattle.fl_cores_file.specs.Printed.{refusal_text, comes_before, rank_of, ranks_of, end_at, head_text, handled_text};
 ghost use Rattle.fl_cores_file.specs.Printed.{binding_text, text_at_rank, ending_text, report_text};
 ghost use Rattle.fl_cores_file.specs.Report.{at_end, refusal_of};
 ghost use Rattle.fl_cores_file.specs.Reports.{both_of, ending_of, report_of};
 
 use crate::file::{CoresFile, end_by, number_at};
 use crate::report::{CallsByEnd, Ending, Report};
-use fl_base::{EndId, Side};
+use fl_base::{EndId, MsgNo, Side};
 use fl_compact_calls::{CompactCall, NumberCall};
 use fl_model::Answer;
 use fl_script_lines::{NameTable, ScriptNames, print_answer, put_end};
 use fl_value::print_call;
 use fl_value_data::Call;
+use itoa::Buffer;
 use std::alloc::{AllocError, Global};
 
 /// Appends the line that tells of a refused line, and of the fault.
@@ -123,6 +126,104 @@ fn put_call(
     out.extend_from_slice(b"\n")
 }
 
+// What stands before the arguments in each line of a call of a message that an end handled.
+#[derive(Drop)]
+struct LineHead {
+    msg: MsgNo,
+    text: Vec<u8>,
+}
+
+#[inline(never)]
+fn head_of(
+    alloc: Global,
+    names: &ScriptNames,
+    end: EndId,
+    msg: MsgNo,
+) -> Result<LineHead, AllocError>
+    ensures msg { IfOk result (λ head. head.msg ≡ msg) }
+    ensures text { IfOk result (λ head. head.text.items ≡ head_text (names_of names.now) end msg.0) }
+{
+    let mut text = Vec::new(alloc);
+    text.extend_from_slice(b"handle ")?;
+    put_end(&mut text, names, end)?;
+    text.extend_from_slice(b" ")?;
+    text.extend_from_slice(names.message_name(end, msg))?;
+    text.extend_from_slice(b"(")?;
+    Ok(LineHead { msg, text })
+}
+
+// What stands behind that in the line of a call of one number.
+#[inline(always)]
+fn put_number(out: &mut Vec<u8>, head: &[u8], number: u64) -> Result<(), AllocError>
+    ensures ok { OnOk result (out.new.items ≡ out.old.items ++ (head.now ++ (decimal number ++ 41 ∷ 10 ∷ []))) }
+{
+    let mut buffer = Buffer::new();
+    out.extend_from_slice(head)?;
+    out.extend_from_slice(buffer.format(number).as_bytes())?;
+    out.extend_from_slice(b")\n")
+}
+
+// The line of a call of one number, behind the head of its message.
+#[inline(always)]
+fn put_number_line(
+    out: &mut Vec<u8>,
+    names: &ScriptNames,
+    end: EndId,
+    head: &LineHead,
+    call: &CompactCall,
+    number: u64,
+) -> Result<(), AllocError>
+    requires head { head.now.text.items ≡ head_text (names_of names.now) end (call_of call.now).msg }
+    requires number { (call_of call.now).args ≡ one_number number }
+    ensures ok { OnOk result (out.new.items ≡ out.old.items ++ line (answer_text (names_of names.now) (handle end (call_of call.now)))) }
+{
+    put_number(out, &head.text, number)
+}
+
+// The head is that of the message.
+#[inline(always)]
+fn be_head_of(
+    alloc: Global,
+    names: &ScriptNames,
+    end: EndId,
+    head: &mut LineHead,
+    msg: MsgNo,
+) -> Result<(), AllocError>
+    requires head { head.old.text.items ≡ head_text (names_of names.now) end head.old.msg.0 }
+    ensures head { head.new.text.items ≡ head_text (names_of names.now) end head.new.msg.0 }
+    ensures msg { OnOk result (head.new.text.items ≡ head_text (names_of names.now) end msg.0) }
+{
+    if head.msg.0 == msg.0 {
+        return Ok(());
+    }
+    *head = head_of(alloc, names, end, msg)?;
+    Ok(())
+}
+
+// The line of a call that an end handled, behind the head of its message where that can be.
+#[inline(always)]
+fn put_line(
+    alloc: Global,
+    out: &mut Vec<u8>,
+    names: &ScriptNames,
+    end: EndId,
+    head: &mut LineHead,
+    spare: &mut NumberCall,
+    call: &CompactCall,
+) -> Result<(), AllocError>
+    requires head { head.old.text.items ≡ head_text (names_of names.now) end head.old.msg.0 }
+    ensures head { head.new.text.items ≡ head_text (names_of names.now) end head.new.msg.0 }
+    ensures ok { OnOk result (out.new.items ≡ out.old.items ++ line (answer_text (names_of names.now) (handle end (call_of call.now)))) }
+{
+    match call.number() {
+        None => put_call(alloc, out, names, end, call.lend(spare)),
+        Some(number) => {
+            be_head_of(alloc, names, end, head, call.msg())?;
+            put_number_line(out, names, end, head, call, number)
+        }
+    }
+}
+
 // The calls that an end handled, a line each.
 fn put_calls(
     alloc: Global,
@@ -134,8 +235,9 @@ fn put_calls(
     ensures ok { OnOk result (out.new.items ≡ out.old.items ++ flat_map (λ c. line (answer_text (names_of names.now) (handle end c))) (map call_of calls.now)) }
 {
     let mut spare = NumberCall::new(alloc)?;
+    let mut head = head_of(alloc, names, end, MsgNo(0))?;
     for call in calls {
-        put_call(alloc, out, names, end, call.lend(&mut spare))?;
+        put_line(alloc, out, names, end, &mut head, &mut spare, call)?;
     }
     Ok(())
 }
@@ -301,5 +403,9 @@ pub fn print_report(
 {
     let mut text = Vec::new(alloc);
     put_report(alloc, &mut text, file, report)?;
+    if out.is_empty() {
+        *out = text;
+        return Ok(());
+    }
     out.extend_from_slice(&text)
 }

@@ -71,16 +71,24 @@ impl Pace {
 
     // A core comes to its next turn. Gives the count that is reached when each core has come to as many turns. Behind
     // the pace's end it is reached already.
+    #[inline(always)]
     fn come(&self) -> u64 {
         if self.come.load(Ordering::SeqCst) >= FREE {
             return 0;
         }
+        self.count()
+    }
+
+    // It is counted. Out of line, so that a core that keeps no step prepares nothing of it.
+    #[inline(never)]
+    fn count(&self) -> u64 {
         let come = self.come.fetch_add(1, Ordering::SeqCst).saturating_add(1);
         let all = come.checked_next_multiple_of(self.cores).unwrap_or(0);
         all.min(FREE)
     }
 
     // Waits until all together have come to so many turns. Behind a wait in vain no core keeps step.
+    #[inline(never)]
     fn wait(&self, turns: u64) {
         for _ in 0..WAITS {
             for _ in 0..LOOKS {
@@ -103,9 +111,12 @@ pub(crate) struct PacedGate<'a, G> {
 }
 
 impl<G: Gate> Gate for PacedGate<'_, G> {
+    #[inline(always)]
     fn before_turn(&self, core: CoreId) {
         let turns = self.pace.come();
         self.gate.before_turn(core);
-        self.pace.wait(turns);
+        if turns > 0 {
+            self.pace.wait(turns);
+        }
     }
 }
