@@ -60,9 +60,9 @@ uint32_t flounder_make_text_program(const uint8_t *text, size_t length, uint32_t
 uint32_t flounder_make_image_program(const uint8_t *image, size_t length, uint8_t **program);
 fl_answer flounder_make_run(uint8_t *program, uint32_t kind, uint8_t **run);
 fl_answer flounder_use(uint8_t *handle, uint32_t what, uint64_t *numbers, size_t count);
-/* What flounder_use does for 1, 2, 6, 7, 8, 9, 16 and 17. */
-fl_answer flounder_put(uint8_t *handle, uint64_t *numbers, size_t count);
-fl_answer flounder_take(uint8_t *handle, uint64_t *numbers, size_t count);
+/* What flounder_use does for 1, 2, 6, 7, 8, 9, 16 and 17; the first two on eight numbers, with no count. */
+fl_answer flounder_put(uint8_t *handle, uint64_t numbers[8]);
+fl_answer flounder_take(uint8_t *handle, uint64_t numbers[8]);
 fl_answer flounder_call(uint8_t *handle, uint64_t *numbers, size_t count);
 fl_answer flounder_write(uint8_t *handle, uint64_t *numbers, size_t count);
 fl_answer flounder_receive(uint8_t *handle, uint64_t *numbers, size_t count);
@@ -100,7 +100,7 @@ static inline unsigned fl_duo(size_t slots, fl_side *one, fl_side *two)
 static inline unsigned fl_put(fl_side *side, uint64_t fragment[8])
 {
     if (!side || !side->at || !fragment) return FL_NULL;
-    return flounder_put(side->at, fragment, 8).fault;
+    return flounder_put(side->at, fragment).fault;
 }
 
 /* Takes what stands first. `*sight` says what that was: a fragment, which is written; one that only
@@ -111,7 +111,7 @@ static inline unsigned fl_take(fl_side *side, uint64_t fragment[8], unsigned *si
     if (!sight) return FL_NULL;
     *sight = FL_NOTHING;
     if (!side || !side->at || !fragment) return FL_NULL;
-    fl_answer answer = flounder_take(side->at, fragment, 8);
+    fl_answer answer = flounder_take(side->at, fragment);
     *sight = answer.what;
     return answer.fault;
 }

@@ -230,3 +230,25 @@ pub(crate) unsafe fn flounder_use_taking(
 {
     use_taking(&mut *(handle as *mut Handle), what, numbers)
 }
+
+// As `use_handle`, on eight numbers.
+#[inline(always)]
+fn use_eight(handle: &mut Handle, what: u32, numbers: &mut [u64; 8]) -> Answered
+    ensures uses { Uses handle.old what numbers.old result handle.new numbers.new }
+{
+    use_handle(handle, what, numbers)
+}
+
+/// As [`flounder_use`], on eight numbers, of which C passes no count.
+#[inline(always)]
+pub(crate) unsafe fn flounder_use_eight(
+    handle: *mut u8,
+    what: u32,
+    numbers: &mut [u64; 8],
+) -> Answered
+    ghost before: { Handle }
+    requires* { sem 𝓛 (points_to the_row handle before) }
+    ensures* { ∃ₛ (λ (after : Handle). sem 𝓛 (points_to the_row handle after) ∗ ⌜ Uses before what numbers.old result after numbers.new ⌝) }
+{
+    use_eight(&mut *(handle as *mut Handle), what, numbers)
+}

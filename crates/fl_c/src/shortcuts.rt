@@ -6,27 +6,27 @@ ghost use Rattle.std.specs.Ptr.{points_to};
 ghost use Rattle.fl_c_operations.specs.contracts.handle.Handle.{the_row};
 ghost use Rattle.fl_c_operations.specs.Handles.{Uses};
 
-use crate::exports::{flounder_use, flounder_use_sending, flounder_use_taking};
+use crate::exports::{flounder_use, flounder_use_eight, flounder_use_sending, flounder_use_taking};
 use fl_c_operations::{Answered, Handle};
 
 /// Puts a fragment at a side of a ring (1).
 #[unsafe(no_mangle)]
-pub unsafe extern "C" fn flounder_put(handle: *mut u8, numbers: &mut [u64]) -> Answered
+pub unsafe extern "C" fn flounder_put(handle: *mut u8, numbers: &mut [u64; 8]) -> Answered
     ghost before: { Handle }
     requires* { sem 𝓛 (points_to the_row handle before) }
     ensures* { ∃ₛ (λ (after : Handle). sem 𝓛 (points_to the_row handle after) ∗ ⌜ Uses before 1 numbers.old result after numbers.new ⌝) }
 {
-    flounder_use(handle, 1, numbers)
+    flounder_use_eight(handle, 1, numbers)
 }
 
 /// Takes what stands first at a side of a ring (2).
 #[unsafe(no_mangle)]
-pub unsafe extern "C" fn flounder_take(handle: *mut u8, numbers: &mut [u64]) -> Answered
+pub unsafe extern "C" fn flounder_take(handle: *mut u8, numbers: &mut [u64; 8]) -> Answered
     ghost before: { Handle }
     requires* { sem 𝓛 (points_to the_row handle before) }
     ensures* { ∃ₛ (λ (after : Handle). sem 𝓛 (points_to the_row handle after) ∗ ⌜ Uses before 2 numbers.old result after numbers.new ⌝) }
 {
-    flounder_use(handle, 2, numbers)
+    flounder_use_eight(handle, 2, numbers)
 }
 
 /// Makes a call at an end, or begins it at a send run (6).

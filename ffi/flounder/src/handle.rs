@@ -43,8 +43,8 @@ extern "C" {
     ) -> u32;
     fn flounder_make_run(program: *mut u8, kind: u32, run: &mut *mut u8) -> Answer;
     fn flounder_use(handle: *mut u8, what: u32, numbers: *mut u64, count: usize) -> Answer;
-    pub(crate) fn flounder_put(handle: *mut u8, numbers: *mut u64, count: usize) -> Answer;
-    pub(crate) fn flounder_take(handle: *mut u8, numbers: *mut u64, count: usize) -> Answer;
+    pub(crate) fn flounder_put(handle: *mut u8, numbers: &mut [u64; 8]) -> Answer;
+    pub(crate) fn flounder_take(handle: *mut u8, numbers: &mut [u64; 8]) -> Answer;
     pub(crate) fn flounder_call(handle: *mut u8, numbers: *mut u64, count: usize) -> Answer;
     pub(crate) fn flounder_write(handle: *mut u8, numbers: *mut u64, count: usize) -> Answer;
     pub(crate) fn flounder_receive(handle: *mut u8, numbers: *mut u64, count: usize) -> Answer;
@@ -56,6 +56,9 @@ extern "C" {
 
 /// An operation that the archive has by a name too.
 pub(crate) type Operation = unsafe extern "C" fn(*mut u8, *mut u64, usize) -> Answer;
+
+/// One on a fragment.
+pub(crate) type FragmentOperation = unsafe extern "C" fn(*mut u8, &mut [u64; 8]) -> Answer;
 
 /// A handle that nobody else has.
 #[derive(Debug)]
@@ -111,6 +114,19 @@ impl Handle {
     ) -> Result<(u32, u64), Fault> {
         // SAFETY: as of `ask`.
         let answer = unsafe { operation(self.at.as_ptr(), numbers.as_mut_ptr(), numbers.len()) };
+        Fault::of(answer.fault, answer.count)?;
+        Ok((answer.what, answer.count))
+    }
+
+    /// The same of an operation on a fragment.
+    #[inline]
+    pub(crate) fn ask_on(
+        &mut self,
+        operation: FragmentOperation,
+        fragment: &mut [u64; 8],
+    ) -> Result<(u32, u64), Fault> {
+        // SAFETY: as of `ask`.
+        let answer = unsafe { operation(self.at.as_ptr(), fragment) };
         Fault::of(answer.fault, answer.count)?;
         Ok((answer.what, answer.count))
     }

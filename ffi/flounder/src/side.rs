@@ -52,7 +52,7 @@ impl Side {
     /// [`Fault::Full`], [`Fault::Spent`]; [`Fault::Failed`] (E63) where the fragment only acknowledges.
     pub fn put(&mut self, fragment: &Fragment) -> Result<(), Fault> {
         let mut numbers = *fragment;
-        self.handle.ask_by(flounder_put, &mut numbers)?;
+        self.handle.ask_on(flounder_put, &mut numbers)?;
         Ok(())
     }
 
@@ -60,7 +60,7 @@ impl Side {
     /// or by [`Side::tell`].
     pub fn take(&mut self) -> Sight {
         let mut fragment = [0; 8];
-        let answer = self.handle.ask_by(flounder_take, &mut fragment);
+        let answer = self.handle.ask_on(flounder_take, &mut fragment);
         sight(answer, fragment)
     }
 

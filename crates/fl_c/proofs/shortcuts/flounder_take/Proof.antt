@@ -1,13 +1,12 @@
--- `flounder_take` asks `flounder_use` for operation 2.
-use Rattle.std.proofs.Common.{List, [], ◌∷◌, length, refl, lit<}
+-- `flounder_take` asks `flounder_use_eight` for operation 2.
+use Rattle.std.proofs.Common.{[], ◌∷◌, refl, lit<}
 use base.Fraction.{full_share}
 use base.Logic.{id⊢}
 use base.Fml.{ftrue, flft}
 use mir.Syntax.{named, w32}
-use types.Kit.{‵, raw, ◌⊛◌, some, later, ◌$◌, ◌∵◌, !, qed, done, move, keep, drop, use1, use2, split, join, pick, fsplit, fjoin, feq_l, await, suffices, group}
-use types.Run.{enter, addr, lit, fld, hop, stop, from, and_then, no_more, returns}
-use types.Part.{agg, sub, whole}
-use types.ByLocal.{alloc_all, pass_all, free_all, look_at, look_in_at, get, get_in, sets, lands_as}
+use types.Kit.{‵, raw, ◌⊛◌, some, later, ◌$◌, ◌∵◌, !, qed, done, move, keep, drop, use1, split, join, pick, fsplit, await, suffices, group}
+use types.Run.{enter, addr, lit, stop, and_then, no_more, returns}
+use types.ByLocal.{alloc_all, pass_all, free_all, look_at, get, through, sets, lands_as}
 use contract.Monad.{fact}
 use contract.Running.{tables}
 use denote.Exit.{yes}
@@ -15,14 +14,16 @@ use denote.Laws.{Is, shows}
 use denote.Builtin.{u32, u64, RawPtr}
 use denote.Plain.{uint_vals, uint_Makes}
 use denote.RawPtr.{lies_at, rawptr_vals, rawptr_Tells, rawptr_Lawful}
-use denote.Slice.{MutSlice, Room, mut_slice_vals, mut_slice_Tells}
+use denote.Array.{Array}
+use denote.Ref.{MutRef, mut_vals, mut_Tells}
 use denote.Signature.{plain}
+use denote.Signature.Array.{array_of}
 use denote.Steps.{nothing, owned, peeks}
 use denote.Triple.Call.{calls_at}
 use denote.Triple.Clauses.{Lasts, lasts}
 use denote.Triple.Spec.{triple_of}
 use denote.Triple.Table.{framed}
-use denote.Triple.Walked.{Stays, walk_of, stay_dropped, gave_slice, Goes-dropped, Goes-gave_slice, ends_at}
+use denote.Triple.Walked.{Stays, walk_of, stay_dropped, gave_ref, Goes-dropped, Goes-gave_ref, ends_at}
 use Rattle.std.proofs.raw_atomic.Walks.{proved}
 use Rattle.fl_c_operations.specs.contracts.handle.Handle.{the_row as R}
 use Rattle.fl_c_operations.specs.contracts.answer.Answered.{the_row as A}
@@ -31,46 +32,43 @@ use Rattle.fl_c_operations.specs.Handles.{Uses}
 use Rattle.fl_c.specs.contracts.shortcuts.flounder_take as f
 use Rattle.fl_c.proofs.shortcuts.flounder_take.Statement.{statement}
 use Rattle.fl_c.proofs.shortcuts.flounder_take.Code as code
-use Rattle.fl_c.specs.contracts.exports.flounder_use as g
-use Rattle.fl_c.proofs.exports.flounder_use.Met.{met}
+use Rattle.fl_c.specs.contracts.exports.flounder_use_eight as g
+use Rattle.fl_c.proofs.exports.flounder_use_eight.Met.{met}
 
 abbrev stayed : Stays f.ended.signature.params f.ended.kept
-stayed = (stay_dropped (plain (λ _. RawPtr)) yes, (gave_slice (0 ∷ []) tt (plain (λ _. u64)), tt))
+stayed = (stay_dropped (plain (λ _. RawPtr)) yes, (gave_ref (0 ∷ []) tt (array_of (plain (λ _. u64)) 8), tt))
 
 pub flounder_take_spec : {M : Type 1} → statement M
 flounder_take_spec 𝓤 𝓛 𝓜 𝓡 wired =
     let c = f.clauses 𝓛 𝓜.mem 𝓡.returns in let W = walk_of 𝓛 f.ended stayed c in
     proved 𝓛 f.ended stayed c 𝓜 𝓡
-    (Goes-dropped 𝓛 1 (plain (λ _. RawPtr)) yes (λ κs x w. refl), (Goes-gave_slice 𝓛 1 0 tt (plain (λ _. u64)), tt))
+    (Goes-dropped 𝓛 1 (plain (λ _. RawPtr)) yes (λ κs x w. refl), (Goes-gave_ref 𝓛 1 0 tt (array_of (plain (λ _. u64)) 8), tt))
     f.Key.name code.function (code.unfolded 𝓤 𝓛.H 𝓜 𝓡 wired)
-    (λ κs. (rawptr_vals, (mut_slice_vals, tt))) (λ κs. (rawptr_Tells, (mut_slice_Tells (named 0) κs.0 u64, tt))) (λ κs qs bounds a before are.
+    (λ κs. (rawptr_vals, (mut_vals, tt))) (λ κs. (rawptr_Tells, (mut_Tells (named 0) κs.0 (Array u64 8), tt))) (λ κs qs bounds a before are.
     let κ = κs.0 in let q = qs.0 in let s = a.1.0 in
-    let room : Room u64 (length s.now) = are.1.0.0.1 in
-    let y : W.Ghost = ((κs, qs, bounds, a, (rawptr_vals a.0, (mut_slice_vals s, tt))), before) in
+    let y : W.Ghost = ((κs, qs, bounds, a, (rawptr_vals a.0, (mut_vals s, tt))), before) in
     let G = triple_of 𝓛 g.signature (g.spec 𝓛 𝓜.mem 𝓡.returns) in
-    let z : G.Ghost = ((κs, qs, bounds, (a.0, (2, (s, tt))), (rawptr_vals a.0, (uint_vals w32 2, (mut_slice_vals s, tt)))), before) in
-    qed 𝓛 (((‵ (flft κ q) ⊛ ‵ ftrue) ⊛ ‵ (RawPtr.own_val a.0 (rawptr_vals a.0)) ⊛ ‵ ((MutSlice (named 0) κ u64).own_val s (mut_slice_vals s)) ⊛ ‵ ftrue)
+    let z : G.Ghost = ((κs, qs, bounds, (a.0, (2, (s, tt))), (rawptr_vals a.0, (uint_vals w32 2, (mut_vals s, tt)))), before) in
+    qed 𝓛 (((‵ (flft κ q) ⊛ ‵ ftrue) ⊛ ‵ (RawPtr.own_val a.0 (rawptr_vals a.0)) ⊛ ‵ ((MutRef (named 0) κ (Array u64 8)).own_val s (mut_vals s)) ⊛ ‵ ftrue)
     ∷ ‵ (lies_at R full_share a.0 before) ∷ []) ∵
     split ! $ move ! (1 ∷ []) $ split ! $ move ! (1 ∷ []) $ owned ! u32 _ (uint_Makes 𝓛 w32) 2 (uint_vals w32 2) (refl, lit< tt) $
-    -- [the number; the slice; the pointer; the tokens; what lies there]
+    -- [the number; the eight; the pointer; the tokens; what lies there]
     join ! $ move ! (1 ∷ []) $ join ! $ move ! (1 ∷ []) $ join ! $ join ! $ use1 𝓛 (raw (G.pre z)) (id⊢ 𝓤 _) $
     enter ! _ _ _ _ _ $
-    alloc_all ! (λ l. pass_all ! refl (((rawptr_Lawful 𝓛).typed a.0 (rawptr_vals a.0) refl).0, ((tt, (tt, (record { fits = room.0 }, tt))), tt)) $
-    sets ! (addr ! (from ! (fld ! refl (hop ! (look_in_at ! 2 (sub ! 0 refl (whole !))) (stop !))))) refl (tt, tt) $
-    sets ! (agg ! (and_then ! (get ! refl) (and_then ! (get_in ! (fld ! refl (stop !)) (sub ! 1 refl (whole !))) (no_more !))))
-    refl (tt, (tt, (record { fits = room.0 }, tt))) $
-    calls_at ! (framed 𝓤 𝓛.H 𝓜 (tables 𝓤 𝓛.H 𝓜 𝓡 𝓡.env)) G (met 𝓤 𝓛 𝓜 𝓡 (code.calls-fl_c::exports::flounder_use 𝓡.env wired)) z
+    alloc_all ! (λ l. pass_all ! refl (((rawptr_Lawful 𝓛).typed a.0 (rawptr_vals a.0) refl).0, ((tt, tt), tt)) $
+    sets ! (addr ! (through ! refl (stop !))) refl (tt, tt) $
+    calls_at ! (framed 𝓤 𝓛.H 𝓜 (tables 𝓤 𝓛.H 𝓜 𝓡 𝓡.env)) G (met 𝓤 𝓛 𝓜 𝓡 (code.calls-fl_c::exports::flounder_use_eight 𝓡.env wired)) z
     (and_then ! (get ! refl) (and_then ! (lit ! tt) (and_then ! (get ! refl) (no_more !)))) (λ v.
     use1 𝓛 (later (some (λ (r : A.Denot). ((‵ (flft κ q) ⊛ ‵ ftrue) ⊛ ‵ (A.own_val r (v ∷ []))) ⊛
     some (λ (ws : Lasts g.ended z.0.0 z.0.3). ‵ (lasts g.ended z.0.0 z.0.3 ws) ⊛
     some (λ (x : R.Denot). ‵ (lies_at R full_share a.0 x) ⊛ raw (fact 𝓤 (Uses before 2 s.now r x ws.1.1.0))))))) (id⊢ 𝓤 _) $
     await ! tt $ pick ! (λ r. split ! $ move ! (1 ∷ []) $ pick ! (λ ws. split ! $
     -- [the last values; what lies there, and what was done; the tokens and the result]
-    fsplit ! $ drop ! $ fsplit ! $ drop ! $ fsplit ! $ fsplit ! $ fsplit ! $ move ! (1 ∷ []) $ feq_l ! (λ same. fjoin ! $
-    -- [the slice's last; nothing; what lies there, and what was done; the tokens and the result]
+    fsplit ! $ drop ! $ fsplit ! $ drop ! $ fsplit ! $
+    -- [the eight's last; nothing; what lies there, and what was done; the tokens and the result]
     move ! (3 ∷ []) $ split ! $ move ! (1 ∷ []) $
     peeks ! A (Is A) (shows 𝓛 A) r (v ∷ []) (λ is. lands_as ! refl refl ((answer_laws.lawful 𝓛).typed r (v ∷ []) is).0 $
     returns ! (look_at ! 0 refl) $ free_all ! refl $
-    suffices ! _ (ends_at 𝓛 f.ended stayed c y v r (tt, (ws.1.1.0, tt)) (tt, (same, tt))) $
-    -- [the result; the tokens; the slice's last; nothing; what lies there, and what was done]
-    nothing ! $ move ! (3 ∷ 0 ∷ []) $ join ! $ nothing ! $ join ! $ keep ! (2 ∷ 0 ∷ 1 ∷ 4 ∷ []) $ group ! 3 $ done !)))))))
+    suffices ! _ (ends_at 𝓛 f.ended stayed c y v r (tt, (ws.1.1.0, tt)) (tt, (tt, tt))) $
+    -- [the result; the tokens; the eight's last; nothing; what lies there, and what was done]
+    nothing ! $ move ! (3 ∷ 0 ∷ []) $ join ! $ nothing ! $ join ! $ keep ! (2 ∷ 0 ∷ 1 ∷ 4 ∷ []) $ group ! 3 $ done !))))))
