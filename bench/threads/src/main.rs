@@ -143,13 +143,18 @@ impl Times {
     }
 }
 
-// Runs each side once; all reports have to be the same.
+// Runs each side once; all reports have to be the same. What ran before tells in a run's time, by some tenths of a millisecond behind a recorded
+// run, which works on for long: so each is behind a run of the first side, which isn't counted.
 fn round(sides: &[Side], file: &Path, first: usize, times: &mut [Times]) {
     let mut reports = Vec::new();
+    let behind_first = |side: &Side, turns: u64| {
+        sides[0].run(file, MANY);
+        side.run(file, turns)
+    };
     for k in 0..sides.len() {
         let k = (first + k) % sides.len();
-        let reading = sides[k].run(file, 0);
-        let whole = sides[k].run(file, MANY);
+        let reading = behind_first(&sides[k], 0);
+        let whole = behind_first(&sides[k], MANY);
         times[k].reading.push(reading.told);
         times[k].whole.push(whole.told);
         times[k].ended.push(whole.ended);
