@@ -3,10 +3,11 @@
 //! Handles are made here and handed on by value: what is asked of them stands over [`Asked`], which knows of no handle's parts.
 
 use fl_c_operations::{
-    Answered, Handle, HeldEnd, HeldProgram, MakeFault, UseFault, image_ends, new_run, ring_handles,
-    text_ends, text_program, use_handle,
+    Answered, Handle, HeldEnd, HeldProgram, MakeFault, UseFault, image_ends, image_program,
+    new_run, ring_handles, text_ends, text_program, use_handle,
 };
 use fl_compile::Program;
+use fl_image::{is_writable, write_image};
 use fl_ring::{RingFault, duo};
 use fl_value_data::PlanNo;
 use std::alloc::{AllocError, Global};
@@ -472,6 +473,48 @@ fn programs_answer(alloc: Global) -> Result<bool, AllocError> {
 #[test]
 fn runs_give_and_take_fragments(rt: HostRuntime) -> Result<(), Fail> {
     assert!(rt; programs_answer(rt.alloc())?);
+    Ok(())
+}
+
+// The image of a program. Where it has none there are no bytes, which are no image.
+fn image_of(alloc: Global, program: &Program) -> Result<Vec<u8>, AllocError> {
+    if !is_writable(program.interface()) {
+        return Ok(Vec::new(alloc));
+    }
+    write_image(alloc, program)
+}
+
+fn image_ends_answer(alloc: Global, image: &[u8]) -> Result<bool, AllocError> {
+    match image_ends(alloc, image, 8) {
+        Ok((one, two)) => all_come_at(Handle::End(one), Handle::End(two), CALLS),
+        Err(MakeFault::Memory) => Err(AllocError),
+        Err(_) => Ok(false),
+    }
+}
+
+fn image_program_answers(alloc: Global, image: &[u8]) -> Result<bool, AllocError> {
+    match image_program(alloc, image) {
+        Ok(program) => program_answers(Handle::Program(HeldProgram::new(alloc, program))),
+        Err(MakeFault::Memory) => Err(AllocError),
+        Err(_) => Ok(false),
+    }
+}
+
+fn images_answer(alloc: Global) -> Result<bool, AllocError> {
+    let Ok(program) = text_program(alloc, TEXT, PlanNo::One) else {
+        return Err(AllocError);
+    };
+    let image = image_of(alloc, &program)?;
+    if !image_ends_answer(alloc, &image)? {
+        return Ok(false);
+    }
+    image_program_answers(alloc, &image)
+}
+
+// The ends and the program of an image do what those of its text do.
+#[test]
+fn images_do_as_their_texts(rt: HostRuntime) -> Result<(), Fail> {
+    assert!(rt; images_answer(rt.alloc())?);
     Ok(())
 }
 
