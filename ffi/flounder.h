@@ -1,5 +1,5 @@
-/* The proved rings, ends and stubs of fl_c, for C. Link with libfl_c.a, and with liblibc_c.a of the toolchain or three
- * symbols of your own:
+/* The proved rings, ends and stubs of fl_c, for C. Link with libfl_c.a, and with c/lines.c, with liblibc_c.a of the
+ * toolchain, or with three symbols of your own:
  *
  *     struct flroom rattle_alloc(size_t size, size_t align);
  *     struct flroom rattle_realloc(void *at, size_t kept, size_t size, size_t align);
