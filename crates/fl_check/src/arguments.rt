@@ -81,7 +81,6 @@ impl<'a> Declared<'a> {
     #[tactic(auto, using(crate::proofs::FirstFaults::places))]
     fn check_plain_argument(
         &self,
-        alloc: Global,
         names: &mut DistinctNames<'a>,
         counted_before: usize,
         kind: &Name,
@@ -97,7 +96,7 @@ impl<'a> Declared<'a> {
         ensures fault { IfErr result (λ e. Tells e (first_fault
             (plain_argument_places (before_of self.now) (list_of names.old) counted_before (name_of kind.now) (name_of name.now)))) }
     {
-        let checked = self.check_plain_type(alloc, kind)?;
+        let checked = self.check_plain_type(kind)?;
         add_listed_name(names, counted_before, name)?;
         Ok(checked)
     }
@@ -105,7 +104,6 @@ impl<'a> Declared<'a> {
     #[tactic(auto, using(crate::proofs::FirstFaults::places))]
     fn check_sized_argument(
         &self,
-        alloc: Global,
         names: &mut DistinctNames<'a>,
         counted_before: usize,
         argument: &Argument<'a>,
@@ -122,7 +120,7 @@ impl<'a> Declared<'a> {
         ensures fault { IfErr result (λ e. Tells e (first_fault (sized_argument_places (before_of self.now) (list_of names.old) counted_before
             (argument_of argument.now) (name_of length.now) (option_map number_of bound)))) }
     {
-        let element = self.check_fixed_type(alloc, &argument.type_name)?;
+        let element = self.check_fixed_type(&argument.type_name)?;
         add_listed_name(names, counted_before, &argument.name)?;
         add_name(names, length)?;
         check_bound(bound)?;
@@ -135,7 +133,6 @@ impl<'a> Declared<'a> {
     /// An argument after those whose names these are, so many of them arguments'.
     pub fn check_argument(
         &self,
-        alloc: Global,
         names: &mut DistinctNames<'a>,
         counted_before: usize,
         argument: &Argument<'a>,
@@ -151,7 +148,6 @@ impl<'a> Declared<'a> {
         match argument.shape {
             Shape::Plain => {
                 self.check_plain_argument(
-                    alloc,
                     names,
                     counted_before,
                     &argument.type_name,
@@ -162,7 +158,7 @@ impl<'a> Declared<'a> {
                 check_string_argument(names, counted_before, argument, number)
             }
             Shape::Sized { length, bound } => {
-                self.check_sized_argument(alloc, names, counted_before, argument, &length, bound)
+                self.check_sized_argument(names, counted_before, argument, &length, bound)
             }
         }
     }
@@ -170,7 +166,6 @@ impl<'a> Declared<'a> {
     /// Adds an argument to a payload, and its names to those of the arguments before it.
     fn add_argument(
         &self,
-        alloc: Global,
         names: &mut DistinctNames<'a>,
         payload: &mut Payload,
         argument: &Argument<'a>,
@@ -185,7 +180,7 @@ impl<'a> Declared<'a> {
         ensures fault { IfErr result (λ e. Tells e (first_fault
             (argument_place (before_of self.now) (list_of names.old) (vec_len payload.old.args) (argument_of argument.now)))) }
     {
-        let checked = self.check_argument(alloc, names, payload.args.len(), argument)?;
+        let checked = self.check_argument(names, payload.args.len(), argument)?;
         payload.push(checked)
     }
 
@@ -203,7 +198,7 @@ impl<'a> Declared<'a> {
         let mut names = DistinctNames::new(alloc);
         let mut payload = Payload::new(alloc);
         for argument in args {
-            self.add_argument(alloc, &mut names, &mut payload, argument)?;
+            self.add_argument(&mut names, &mut payload, argument)?;
         }
         Ok(payload)
     }
@@ -211,7 +206,6 @@ impl<'a> Declared<'a> {
     /// Adds an argument to the half that carries it, and its names to those of the arguments before it.
     fn add_directed(
         &self,
-        alloc: Global,
         names: &mut DistinctNames<'a>,
         halves: &mut RpcPayloads,
         directed: &DirectedArgument<'a>,
@@ -233,7 +227,7 @@ impl<'a> Declared<'a> {
             (argument_of directed.now.argument)))) }
     {
         let counted_before = halves.ins.args.len() + halves.outs.args.len();
-        let checked = self.check_argument(alloc, names, counted_before, &directed.argument)?;
+        let checked = self.check_argument(names, counted_before, &directed.argument)?;
         halves.push(directed.direction, checked)
     }
 
@@ -252,7 +246,7 @@ impl<'a> Declared<'a> {
         let mut names = DistinctNames::new(alloc);
         let mut halves = RpcPayloads::new(alloc);
         for directed in args {
-            self.add_directed(alloc, &mut names, &mut halves, directed)?;
+            self.add_directed(&mut names, &mut halves, directed)?;
         }
         Ok(halves)
     }

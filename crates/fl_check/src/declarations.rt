@@ -78,14 +78,14 @@ impl<'a> Declared<'a> {
     }
 
     #[tactic(auto, using(crate::proofs::FirstFaults::places))]
-    fn declare_alias(&mut self, alloc: Global, new: &Name<'a>, old: &Name) -> Result<(), CheckFault>
+    fn declare_alias(&mut self, new: &Name<'a>, old: &Name) -> Result<(), CheckFault>
         ensures sound { OnOk result (first_fault (declaration_places (before_of self.old) (alias_of (name_of new.now) (name_of old.now))) ≡ None) }
         ensures after { OnOk result (before_of self.new ≡ after (before_of self.old) (alias_of (name_of new.now) (name_of old.now))) }
         ensures fault { IfErr result (λ e. Tells e (first_fault (declaration_places (before_of self.old) (alias_of (name_of new.now) (name_of old.now))))) }
         ensures memory { IfErr result (λ e. ComesAfter e (first_look (before_of self.old) (alias_of (name_of new.now) (name_of old.now)))) }
     {
         self.check_new_type(new, false)?;
-        let measured = self.check_fixed_type(alloc, old)?;
+        let measured = self.check_fixed_type(old)?;
         self.add_type(new, measured)
     }
 
@@ -106,7 +106,7 @@ impl<'a> Declared<'a> {
         ensures memory { IfErr result (λ e. ComesAfter e (first_look (before_of self.old)
             (typedef_of (name_of old.now) (name_of new.now) (option_map number_of count)))) }
     {
-        let element = self.check_fixed_type(alloc, old)?;
+        let element = self.check_fixed_type(old)?;
         self.check_new_type(new, false)?;
         let measured = apply_count(alloc, element, count)?;
         self.add_type(new, measured)
@@ -146,8 +146,9 @@ impl<'a> Declared<'a> {
             (declaration_places (before_of self.old) (struct_of (map field_of fields.now) (name_of name.now))))) }
         ensures memory { IfErr result (λ e. ComesAfter e (first_look (before_of self.old) (struct_of (map field_of fields.now) (name_of name.now)))) }
     {
-        let measured = self.check_structure(alloc, fields)?;
+        let laid = self.check_structure(alloc, fields)?;
         self.check_new_type(name, fields.is_empty())?;
+        let measured = laid.into_struct(alloc)?;
         self.add_type(name, measured)
     }
 
@@ -285,7 +286,7 @@ impl<'a> Declared<'a> {
         ensures memory { IfErr result (λ e. ComesAfter e (first_look (before_of self.old) (declaration_of declaration.now))) }
     {
         match declaration {
-            Declaration::Alias { new, old } => self.declare_alias(alloc, new, old),
+            Declaration::Alias { new, old } => self.declare_alias(new, old),
             Declaration::Typedef { old, new, count } => self.declare_typedef(
                 alloc, old, new, *count,
             ),

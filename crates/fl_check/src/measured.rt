@@ -12,6 +12,7 @@ use fl_interface::{
     ENUM_SIZE, FixedType, MAX_NESTED_ARRAYS, MAX_TYPE_DEPTH, MAX_TYPE_SIZE, Scalar, duplicate_type,
 };
 use std::alloc::{AllocError, Global};
+use std::sync::Arc;
 
 /// A type, its size and alignment in bytes, how deep structs and fixed arrays nest in it, and how
 /// many fixed arrays stand on one path through it.
@@ -59,13 +60,13 @@ impl Measured {
         }
     }
 
-    pub fn duplicate(&self, alloc: Global) -> Result<Measured, AllocError>
+    pub fn duplicate(&self) -> Result<Measured, AllocError>
         ensures equal { IfOk result (λ m. type_of m.fixed ≡ type_of self.now.fixed) }
         ensures size { IfOk result (λ m. m.size ≡ self.now.size) }
         ensures depth { IfOk result (λ m. m.depth ≡ self.now.depth) }
         ensures arrays { IfOk result (λ m. m.arrays ≡ self.now.arrays) }
     {
-        let fixed = duplicate_type(alloc, &self.fixed)?;
+        let fixed = duplicate_type(&self.fixed)?;
         Ok(Measured {
             fixed,
             size: self.size,
@@ -90,7 +91,7 @@ impl Measured {
         let align = self.align;
         let depth = self.depth + 1;
         let arrays = self.arrays + 1;
-        let element = Box::new(alloc, self.fixed)?;
+        let element = Arc::new(alloc, self.fixed)?;
         Ok(Measured {
             fixed: FixedType::Array(count, element),
             size,
@@ -165,17 +166,21 @@ impl StructFields {
     }
 
     /// The struct of these fields: its size is rounded up to its alignment.
-    pub fn into_struct(self) -> Measured
+    pub fn into_struct(self, alloc: Global) -> Result<Measured, AllocError>
         requires few { vec_len self.types ≤ 32 }
-        ensures stands { type_of result.fixed ≡ structure (fields_from (map type_of self.types.items)) }
+        ensures stands { IfOk result (λ m. type_of m.fixed ≡ structure (fields_from (map type_of self.types.items))) }
     {
-        let size = self.end.next_multiple_of(self.align);
-        Measured {
+        let align = self.align;
+        let size = self.end.next_multiple_of(align);
+        let depth = self.depth + 1;
+        let arrays = self.arrays;
+        let fields = Arc::new(alloc, self.types)?;
+        Ok(Measured {
+            fixed: FixedType::Structure(fields),
             size,
-            align: self.align,
-            depth: self.depth + 1,
-            arrays: self.arrays,
-            fixed: FixedType::Structure(self.types),
-        }
+            align,
+            depth,
+            arrays,
+        })
     }
 }

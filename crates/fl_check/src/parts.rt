@@ -1,7 +1,7 @@
 //! The parts of declarations in their order: enumerators and fields.
 
 ghost use Rattle.std.specs.Prelude.{◌≡◌, ◌≤◌, ◌<◌, ◌+◌, ◌∷◌, [], ◌++◌, OnOk, OnErr, IfOk, IfErr, IfSome, option_map, None, map, length, take, false, vec_len};
-ghost use Rattle.fl_interface.specs.Interface.{type_of, structure, fields_from};
+ghost use Rattle.fl_interface.specs.Interface.{type_of};
 ghost use Rattle.fl_check.specs.Known.{counted, field_type};
 ghost use Rattle.fl_interface.specs.Limits.{is_among};
 ghost use Rattle.fl_check.specs.Places.{other_place, listed_place, member_places, field_place, field_places, count_places};
@@ -123,7 +123,7 @@ impl<'a> Declared<'a> {
         ensures fault { IfErr result (λ e. Tells e (first_fault (field_place (before_of self.now) (list_of names.old) (field_of field.now)))) }
         ensures memory { IfErr result (λ e. ComesAfter e (take 1 (field_place (before_of self.now) (list_of names.old) (field_of field.now)))) }
     {
-        let measured = self.check_fixed_type(alloc, &field.type_name)?;
+        let measured = self.check_fixed_type(&field.type_name)?;
         let counted_before = names.len();
         add_listed_name(names, counted_before, &field.name)?;
         apply_count(alloc, measured, field.count)
@@ -151,15 +151,16 @@ impl<'a> Declared<'a> {
         laid.push(measured)
     }
 
-    /// The struct of these fields.
+    /// The fields of a struct.
     #[tactic(auto, using(crate::proofs::FirstFaults::places))]
     pub fn check_structure(
         &self,
         alloc: Global,
         fields: &[Field<'a>],
-    ) -> Result<Measured, CheckFault>
+    ) -> Result<StructFields, CheckFault>
         ensures sound { OnOk result (first_fault (field_places (before_of self.now) [] (map field_of fields.now)) ≡ None) }
-        ensures stands { IfOk result (λ m. type_of m.fixed ≡ structure (fields_from (map (field_type (before_of self.now)) (map field_of fields.now)))) }
+        ensures stands { IfOk result (λ laid. map type_of laid.types.items ≡ map (field_type (before_of self.now)) (map field_of fields.now)) }
+        ensures few { IfOk result (λ laid. vec_len laid.types ≤ 32) }
         ensures fault { IfErr result (λ e. Tells e (first_fault (field_places (before_of self.now) [] (map field_of fields.now)))) }
         ensures memory { IfErr result (λ e. ComesAfter e (take 1 (field_places (before_of self.now) [] (map field_of fields.now)))) }
         ensures some { OnErr result (0 < length fields.now) }
@@ -169,6 +170,6 @@ impl<'a> Declared<'a> {
         for field in fields {
             self.add_field(alloc, &mut names, &mut laid, field)?;
         }
-        Ok(laid.into_struct())
+        Ok(laid)
     }
 }

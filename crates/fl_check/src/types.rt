@@ -18,7 +18,7 @@ use crate::payload::Checked;
 use crate::words::{is_built_in, is_capability, is_string, scalar_named};
 use fl_interface::{MAX_BOUND, MAX_ELEMENTS, MAX_TYPES};
 use fl_parse::{Name, Number};
-use std::alloc::{AllocError, Global};
+use std::alloc::AllocError;
 
 const USUAL_TEXT: u32 = 2_047;
 
@@ -31,7 +31,7 @@ pub fn refuse(rule: Rule, at: usize) -> CheckFault
 
 impl<'a> Declared<'a> {
     /// The fixed type of a name, built in or declared before.
-    pub fn resolve(&self, alloc: Global, name: &[u8]) -> Result<Option<Measured>, AllocError>
+    pub fn resolve(&self, name: &[u8]) -> Result<Option<Measured>, AllocError>
         ensures exact { IfOk result (λ found. option_map (λ m. type_of m.fixed) found ≡ type_named (before_of self.now) name.now) }
         ensures size { IfOk result (λ found. IfSome found (λ m. m.size ≤ 4096)) }
         ensures depth { IfOk result (λ found. IfSome found (λ m. m.depth ≤ 16)) }
@@ -44,13 +44,13 @@ impl<'a> Declared<'a> {
         let Some(known) = self.find(name) else {
             return Ok(None);
         };
-        let copy = known.measured.duplicate(alloc)?;
+        let copy = known.measured.duplicate()?;
         Ok(Some(copy))
     }
 
     /// The type of a name that stands where a fixed type must be.
     #[tactic(auto, unfolding(crate::specs::Checks::first_fault, crate::specs::Places::fixed_type_place))]
-    pub fn check_fixed_type(&self, alloc: Global, name: &Name) -> Result<Measured, CheckFault>
+    pub fn check_fixed_type(&self, name: &Name) -> Result<Measured, CheckFault>
         ensures sound { OnOk result (first_fault (fixed_type_place (before_of self.now) (name_of name.now) ∷ []) ≡ None) }
         ensures stands { IfOk result (λ m. type_of m.fixed ≡ stands_for (before_of self.now) (name_of name.now)) }
         ensures size { IfOk result (λ m. m.size ≤ 4096) }
@@ -65,7 +65,7 @@ impl<'a> Declared<'a> {
         if is_string(name.text) {
             return Err(refuse(Rule::NotFixed, name.at));
         }
-        let Some(measured) = self.resolve(alloc, name.text)? else {
+        let Some(measured) = self.resolve(name.text)? else {
             return Err(refuse(Rule::UnknownType, name.at));
         };
         Ok(measured)
@@ -73,7 +73,7 @@ impl<'a> Declared<'a> {
 
     /// The type of a name that stands alone before an argument's name.
     #[tactic(auto, unfolding(crate::specs::Checks::first_fault, crate::specs::Places::plain_type_place))]
-    pub fn check_plain_type(&self, alloc: Global, name: &Name) -> Result<Checked, CheckFault>
+    pub fn check_plain_type(&self, name: &Name) -> Result<Checked, CheckFault>
         ensures sound { OnOk result (first_fault (plain_type_place (before_of self.now) (name_of name.now) ∷ []) ≡ None) }
         ensures stands { IfOk result (λ a. checked_of a ≡ (if is_string name.now.text.now then text 2047 else fixed
             (stands_for (before_of self.now) (name_of name.now)))) }
@@ -86,7 +86,7 @@ impl<'a> Declared<'a> {
         if is_string(name.text) {
             return Ok(Checked::Text { bound: USUAL_TEXT });
         }
-        let Some(measured) = self.resolve(alloc, name.text)? else {
+        let Some(measured) = self.resolve(name.text)? else {
             return Err(refuse(Rule::UnknownType, name.at));
         };
         Ok(Checked::Fixed { measured })

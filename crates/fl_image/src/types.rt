@@ -10,6 +10,7 @@ use crate::fault::{BadImage, ImageFault};
 use crate::number::{one, two};
 use fl_interface::{ArgType, FixedType, MAX_LISTED, Scalar};
 use std::alloc::{AllocError, Global};
+use std::sync::Arc;
 
 /// The scalar type with a code.
 #[tactic(auto, unfolding(crate::specs::Reading::scalar_with))]
@@ -48,16 +49,16 @@ fn of_enum(count: u32) -> FixedType
     FixedType::Enumeration(count)
 }
 
-fn of_fields(fields: Vec<FixedType>) -> FixedType
-    ensures stands { type_of result ≡ structure (fields_from (map type_of fields.items)) }
+fn of_fields(alloc: Global, fields: Vec<FixedType>) -> Result<FixedType, AllocError>
+    ensures stands { IfOk result (λ t. type_of t ≡ structure (fields_from (map type_of fields.items))) }
 {
-    FixedType::Structure(fields)
+    Ok(FixedType::Structure(Arc::new(alloc, fields)?))
 }
 
 fn of_elements(alloc: Global, count: u32, element: FixedType) -> Result<FixedType, AllocError>
     ensures stands { IfOk result (λ t. type_of t ≡ array count (type_of element)) }
 {
-    Ok(FixedType::Array(count, Box::new(alloc, element)?))
+    Ok(FixedType::Array(count, Arc::new(alloc, element)?))
 }
 
 /// A scalar with this code.
@@ -118,7 +119,7 @@ fn structure(alloc: Global, left: u32, bytes: &[u8]) -> Result<(FixedType, &[u8]
 {
     let (count, rest) = one(bytes)?;
     let (fields, rest) = fields(alloc, left, count, rest)?;
-    Ok((of_fields(fields), rest))
+    Ok((of_fields(alloc, fields)?, rest))
 }
 
 /// So many types, where so many may stand in one another.

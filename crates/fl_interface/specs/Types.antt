@@ -1,5 +1,6 @@
 -- Interfaces, messages and types as definitions have them, and what of the code's messages and types stands for each.
 use Rattle.std.specs.Prelude.{ℕ, List, [], ◌∷◌, map}
+use Rattle.std.specs.Arc.{arc_value}
 use Rattle.fl_interface.specs.declared.interface.Scalar.{Scalar as RustScalar}
 use Rattle.fl_interface.specs.declared.interface.FixedType.{FixedType}
 use Rattle.fl_interface.specs.declared.interface.FixedType.TheOpen.{FixedType-F, Scalar, Enumeration, Structure, Array}
@@ -43,8 +44,8 @@ fields_from (t ∷ ts) = field t (fields_from ts)
 abbrev pub type_step : FixedType-F TheType → TheType
 type_step (Scalar s) = scalar s
 type_step (Enumeration n) = enumeration n
-type_step (Structure ts) = structure (fields_from ts.items)
-type_step (Array n t) = array n t.value
+type_step (Structure ts) = structure (fields_from (arc_value ts).items)
+type_step (Array n t) = array n (arc_value t)
 
 abbrev pub type_of : FixedType → TheType
 type_of = fold-FixedType TheType type_step

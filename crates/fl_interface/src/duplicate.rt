@@ -1,4 +1,4 @@
-//! Copies of interfaces.
+//! Copies of interfaces: names and lists are copied, and types are shared.
 
 ghost use Rattle.std.specs.Prelude.{◌≡◌, map, IfOk};
 ghost use Rattle.fl_interface.specs.Interface.{type_of, arg_type_of, message_of, interface_of};
@@ -6,9 +6,10 @@ ghost use Rattle.fl_interface.specs.Interface.{type_of, arg_type_of, message_of,
 use crate::interface::{ArgType, FixedType, Interface, Message};
 use crate::word::Word;
 use std::alloc::{AllocError, Global};
+use std::sync::Arc;
 
 impl Interface {
-    /// An equal interface, in memory of its own.
+    /// An equal interface, whose types share with this one's what they are made of.
     ///
     /// # Errors
     /// Out of memory (E99).
@@ -53,47 +54,32 @@ fn duplicate_args(alloc: Global, args: &[ArgType]) -> Result<Vec<ArgType>, Alloc
 {
     let mut copies = Vec::with_capacity(alloc, args.len())?;
     for arg in args {
-        copies.push(duplicate_arg(alloc, arg)?)?;
+        copies.push(duplicate_arg(arg)?)?;
     }
     Ok(copies)
 }
 
-fn duplicate_arg(alloc: Global, arg: &ArgType) -> Result<ArgType, AllocError>
+fn duplicate_arg(arg: &ArgType) -> Result<ArgType, AllocError>
     ensures equal { IfOk result (λ copy. arg_type_of copy ≡ arg_type_of arg.now) }
 {
     match arg {
-        ArgType::Fixed(fixed) => Ok(ArgType::Fixed(duplicate_type(alloc, fixed)?)),
+        ArgType::Fixed(fixed) => Ok(ArgType::Fixed(duplicate_type(fixed)?)),
         ArgType::Text(max) => Ok(ArgType::Text(*max)),
-        ArgType::Sized(max, element) => Ok(ArgType::Sized(*max, duplicate_type(alloc, element)?)),
+        ArgType::Sized(max, element) => Ok(ArgType::Sized(*max, duplicate_type(element)?)),
     }
 }
 
-/// An equal type, in memory of its own.
+/// An equal type, which shares its fields and its elements' type with the one that is copied.
 ///
 /// # Errors
-/// Out of memory (E99), and nothing else.
-#[cycle(duplicate)]
-pub fn duplicate_type(alloc: Global, fixed: &FixedType) -> Result<FixedType, AllocError>
+/// A type that is shared 2^63 times (E99), and nothing else.
+pub fn duplicate_type(fixed: &FixedType) -> Result<FixedType, AllocError>
     ensures equal { IfOk result (λ copy. type_of copy ≡ type_of fixed.now) }
 {
     match fixed {
         FixedType::Scalar(scalar) => Ok(FixedType::Scalar(*scalar)),
         FixedType::Enumeration(count) => Ok(FixedType::Enumeration(*count)),
-        FixedType::Structure(fields) => Ok(FixedType::Structure(duplicate_types(alloc, fields)?)),
-        FixedType::Array(count, element) => {
-            let copy = duplicate_type(alloc, element)?;
-            Ok(FixedType::Array(*count, Box::new(alloc, copy)?))
-        }
+        FixedType::Structure(fields) => Ok(FixedType::Structure(Arc::try_clone(fields)?)),
+        FixedType::Array(count, element) => Ok(FixedType::Array(*count, Arc::try_clone(element)?)),
     }
-}
-
-#[cycle(duplicate)]
-fn duplicate_types(alloc: Global, types: &[FixedType]) -> Result<Vec<FixedType>, AllocError>
-    ensures equal { IfOk result (λ copy. map type_of copy.items ≡ map type_of types.now) }
-{
-    let mut copies = Vec::with_capacity(alloc, types.len())?;
-    for fixed in types {
-        copies.push(duplicate_type(alloc, fixed)?)?;
-    }
-    Ok(copies)
 }

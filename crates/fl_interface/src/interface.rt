@@ -7,6 +7,7 @@ ghost use Rattle.fl_interface.specs.Limits.{is_within_limits};
 ghost use Rattle.fl_interface.specs.Counts.{messages_words_fit};
 
 use crate::word::Word;
+use std::sync::Arc;
 
 /// A scalar type, by its name in the language, where all letters are small. `Bool` and `Char` take 1 byte,
 /// `Iref` takes 4, `Uintptr`, `Intptr`, `Size` and `Errval` take 8, each other one as many bits as its name
@@ -30,7 +31,8 @@ pub enum Scalar {
     Errval,
 }
 
-/// A type whose values all have one size.
+/// A type whose values all have one size. Its fields and its elements' type are shared: each use of a declared type's name has
+/// the same ones, so a copy takes no memory and no walk.
 #[derive(Debug, Drop)]
 pub enum FixedType {
     /// A scalar.
@@ -38,9 +40,9 @@ pub enum FixedType {
     /// An enum of so many enumerators; a value is an enumerator's place, from 0.
     Enumeration(u32),
     /// A struct of these fields, in order.
-    Structure(Vec<FixedType>),
+    Structure(Arc<Vec<FixedType>>),
     /// A fixed array of so many elements.
-    Array(u32, Box<FixedType>),
+    Array(u32, Arc<FixedType>),
 }
 
 /// The type of an argument: only here may a value's size vary.

@@ -1,4 +1,5 @@
 use Rattle.std.proofs.Common.{◌≡◌, map, rules}
+use Rattle.std.specs.Arc.{arc_value}
 use Rattle.std.proofs.lemmas.Bool.{false≢true}
 use Rattle.std.proofs.lemmas.Slice.Zip.{zip_turn}
 use Rattle.fl_interface.specs.Interface.{TheType, type_step, type_of, fields_from, structure}
@@ -9,9 +10,9 @@ use Rattle.fl_interface.proofs.same.+same.Goals as goal
 
 pub same_type-returns-in-Structure-other : goal.same_type-returns-in-Structure-other
 same_type-returns-in-Structure-other t c =
-    let one : type_of c.args.one.now ≡ structure (fields_from (map type_of c.in-Structure.a.items)) = search (rules, the_lemmas, fold-roll-FixedType TheType type_step, fold_out-FixedType TheType type_step) in
-    let other : type_of c.args.other.now ≡ structure (fields_from (map type_of c.in-Structure-other.b.items)) = search (rules, the_lemmas, fold-roll-FixedType TheType type_step, fold_out-FixedType TheType type_step) in
-    let h = fields_from_injective (map type_of c.in-Structure.a.items) (map type_of c.in-Structure-other.b.items) in
+    let one : type_of c.args.one.now ≡ structure (fields_from (map type_of (arc_value c.in-Structure.a).items)) = search (rules, the_lemmas, fold-roll-FixedType TheType type_step, fold_out-FixedType TheType type_step) in
+    let other : type_of c.args.other.now ≡ structure (fields_from (map type_of (arc_value c.in-Structure-other.b).items)) = search (rules, the_lemmas, fold-roll-FixedType TheType type_step, fold_out-FixedType TheType type_step) in
+    let h = fields_from_injective (map type_of (arc_value c.in-Structure.a).items) (map type_of (arc_value c.in-Structure-other.b).items) in
     record {
       exact = (λ e. let s = c.same_types.ensures.exact.0 e in cc, λ e. c.same_types.ensures.exact.1 (let r = h (cc) in cc));
     }

@@ -1,4 +1,5 @@
 use Rattle.std.proofs.Common.{◌≡◌, ◌++◌, ◌-◌, [], ◌∷◌, ℕ, List, suc, map, take, drop, replicate, arith, rules, sym, subst}
+use Rattle.std.specs.Arc.{arc_value}
 use Rattle.std.proofs.lemmas.Grind.{replicate_next}
 use Rattle.std.proofs.lemmas.List.{take_all}
 use Rattle.std.proofs.lemmas.Int.{to_z-of_z}
@@ -80,31 +81,31 @@ read_elements-returns-in_default-2-clause-none t c =
 
 pub read_value-returns-in_default-2-clause-none : goal.read_value-returns-in_default-2-clause-none
 read_value-returns-in_default-2-clause-none t c =
-    let ts = map type_of c.in-Structure.fields.items in
+    let ts = map type_of (arc_value c.in-Structure.fields).items in
     let is : structure (fields_from ts) ≡ type_of c.args.fixed.now = search (rules, type_lemmas, fold-roll-FixedType TheType type_step, fold_out-FixedType TheType type_step) in
-    let none = rw (c.in_default-2.is, c.deref.ensures.value) at c.in_ok-values-in-Structure.ensures.none in
+    let none = rw (c.in_default-2.is, c.deref-in-Structure.ensures.value, c.deref.ensures) at c.in_ok-values-in-Structure.ensures.none in
     subst (λ (u : TheType). NoneOf (ValueAt u c.args.tape.now)) is (struct_none ts c.args.tape.now none)
 
 pub read_value-returns-in-Some-2-clause-found : goal.read_value-returns-in-Some-2-clause-found
 read_value-returns-in-Some-2-clause-found t c =
-    let ts = map type_of c.in-Structure.fields.items in
+    let ts = map type_of (arc_value c.in-Structure.fields).items in
     let ds = map datum_of c.in-Some-2.values.items in
     let is : structure (fields_from ts) ≡ type_of c.args.fixed.now = search (rules, type_lemmas, fold-roll-FixedType TheType type_step, fold_out-FixedType TheType type_step) in
     let value : fields (data_from ds) ≡ datum_of (Fields c.in-Some-2.values) = search (rules, value_lemmas, fold_out-Value Datum datum_step) in
-    let one = rw (c.in-Some-2.is, c.deref.ensures.value) at c.in_ok-values-in-Structure.ensures.found in
+    let one = rw (c.in-Some-2.is, c.deref-in-Structure.ensures.value, c.deref.ensures) at c.in_ok-values-in-Structure.ensures.found in
     subst (λ (u : TheType). TheOne (ValueAt u c.args.tape.now) (datum_of (Fields c.in-Some-2.values)) c.in-Some-2.rest.now) is
     (subst (λ (d : Datum). TheOne (ValueAt (structure (fields_from ts)) c.args.tape.now) d c.in-Some-2.rest.now) value (struct_one ts c.args.tape.now ds c.in-Some-2.rest.now one))
 
 pub read_value-returns-in_default-3-clause-none : goal.read_value-returns-in_default-3-clause-none
 read_value-returns-in_default-3-clause-none t c =
-    let element = type_of c.in-Array.element.value in
+    let element = type_of (arc_value c.in-Array.element) in
     let is : array c.in-Array.count element ≡ type_of c.args.fixed.now = search (rules, type_lemmas, fold-roll-FixedType TheType type_step, fold_out-FixedType TheType type_step) in
     let none = rw (c.in_default-3.is, c.deref-in-Array.ensures) at c.in_ok-values-in-Array.ensures.none in
     subst (λ (u : TheType). NoneOf (ValueAt u c.args.tape.now)) is (array_none c.in-Array.count element c.args.tape.now none)
 
 pub read_value-returns-in-Some-3-clause-found : goal.read_value-returns-in-Some-3-clause-found
 read_value-returns-in-Some-3-clause-found t c =
-    let element = type_of c.in-Array.element.value in
+    let element = type_of (arc_value c.in-Array.element) in
     let ds = map datum_of c.in-Some-3.values.items in
     let is : array c.in-Array.count element ≡ type_of c.args.fixed.now = search (rules, type_lemmas, fold-roll-FixedType TheType type_step, fold_out-FixedType TheType type_step) in
     let value : elements (data_from ds) ≡ datum_of (ListOf c.in-Some-3.values) = search (rules, value_lemmas, fold_out-Value Datum datum_step) in

@@ -1,4 +1,5 @@
 use Rattle.std.proofs.Common.{◌≡◌, ◌∙◌, ℕ, List, map, take, replicate, arith, rules, ap, sym, subst, IfOk}
+use Rattle.std.specs.Arc.{arc_value}
 use Rattle.std.proofs.lemmas.Grind.{replicate_next}
 use Rattle.std.proofs.lemmas.List.{take_all}
 use Rattle.std.proofs.lemmas.Int.{to_z-of_z}
@@ -16,7 +17,7 @@ use Rattle.fl_value_data.specs.Taken.{InTurn}
 use Rattle.fl_value_data.proofs.Turns.{map_taken}
 use Rattle.fl_value_unpack.specs.Reading.{PackedValueAt, OnlyOne}
 use Rattle.fl_value_unpack.proofs.Onlys.{start_only, one_more, struct_only, array_only}
-use Rattle.fl_value_unpack.proofs.Seen.{scalar_seen, structure_seen}
+use Rattle.fl_value_unpack.proofs.Seen.{scalar_seen, structure_seen, fields_seen}
 use Rattle.fl_value_unpack.proofs.value.+unpacked.Goals as goal
 
 pub read_fields-loop-field-init : goal.read_fields-loop-field-init
@@ -138,7 +139,7 @@ read_elements-returns-in-Scalar t c =
 pub read_elements-returns-in-Structure : goal.read_elements-returns-in-Structure
 read_elements-returns-in-Structure t c =
     let ty = ap type_of c.in-Structure.is ∙ structure_seen c.in-Structure.fields in
-    let inner = ap (λ (fs : List FixedType). structure (fields_from (map type_of fs))) c.deref.ensures.value in
+    let inner = ap structure (fields_seen c.in-Structure.fields c.deref.result.now c.deref-in-Structure.result.now c.deref.ensures c.deref-in-Structure.ensures.value) in
     record {
       only = subst (λ (u : TheType). IfOk c.read_structs.result (λ r. OnlyOne (InTurn PackedValueAt (replicate c.args.count u) c.args.tape.now) (map datum_of r.0.items) r.1.now)) (inner ∙ sym ty) c.read_structs.ensures.only;
     }
@@ -166,14 +167,14 @@ read_value-returns-in-Enumeration t c =
 pub read_value-returns-in-Structure : goal.read_value-returns-in-Structure
 read_value-returns-in-Structure t c =
     let ty = ap type_of c.in-Structure.is ∙ structure_seen c.in-Structure.fields in
-    let inner = ap (λ (fs : List FixedType). structure (fields_from (map type_of fs))) c.deref.ensures.value in
+    let inner = ap structure (fields_seen c.in-Structure.fields c.deref.result.now c.deref-in-Structure.result.now c.deref.ensures c.deref-in-Structure.ensures.value) in
     record {
       only = subst (λ (u : TheType). IfOk c.read_struct.result (λ r. OnlyOne (PackedValueAt u c.args.tape.now) (datum_of r.0) r.1.now)) (inner ∙ sym ty) c.read_struct.ensures.only;
     }
 
 pub read_value-returns-in_ok-values-in-Array : goal.read_value-returns-in_ok-values-in-Array
 read_value-returns-in_ok-values-in-Array t c =
-    let element = type_of c.in-Array.element.value in
+    let element = type_of (arc_value c.in-Array.element) in
     let ds = map datum_of c.in_ok-values-in-Array.values.items in
     let rest = c.in_ok-values-in-Array.rest.now in
     let is : array c.in-Array.count element ≡ type_of c.args.fixed.now = search (rules, type_lemmas, fold-roll-FixedType TheType type_step, fold_out-FixedType TheType type_step) in

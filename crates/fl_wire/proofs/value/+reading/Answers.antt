@@ -1,7 +1,7 @@
-use Rattle.std.proofs.Common.{◌≡◌, ℕ, rules, arith, map, refl, sym, subst, ap, ◌∙◌, List, IfOk, IfErr}
+use Rattle.std.proofs.Common.{◌≡◌, ℕ, rules, arith, map, refl, sym, subst, ap, ◌∙◌, IfOk, IfErr}
+use Rattle.std.specs.Arc.{arc_value}
 use Rattle.std.proofs.lemmas.Result.{err_from_is_err_and}
 use Rattle.fl_interface.specs.Interface.{TheType, scalar, structure, array, type_of, type_step, fields_from}
-use Rattle.fl_interface.specs.declared.interface.FixedType.{FixedType}
 use Rattle.fl_interface.specs.declared.interface.FixedType.TheViews.{the_lemmas}
 use Rattle.fl_interface.specs.declared.interface.FixedType.TheFolds.{fold-roll-FixedType, fold_out-FixedType}
 use Rattle.fl_interface.specs.Sizes.{greatest_align}
@@ -11,7 +11,7 @@ use Rattle.fl_wire.proofs.Arguments.{align_along, types_align}
 use Rattle.fl_wire.proofs.Steps.{first_stop, come_rest, come_done}
 use Rattle.fl_wire.proofs.Parts.{pushed, elements_on, elements_stop, elements_end, fields_on, fields_stop, fields_end, begins_struct, begins_array, whole_read, struct_start, struct_fields, struct_stop}
 use Rattle.fl_wire.proofs.Wides.{elements_start, fields_start}
-use Rattle.fl_wire.proofs.Seen.{scalar_seen, structure_seen}
+use Rattle.fl_wire.proofs.Seen.{scalar_seen, structure_seen, fields_seen}
 use Rattle.fl_wire.proofs.value.+reading.Goals as goal
 
 pub read_each-returns-in_err-value-clause-stop : goal.read_each-returns-in_err-value-clause-stop
@@ -209,30 +209,30 @@ read_elements-returns-in-Scalar-clause-stop t c =
 
 pub read_elements-returns-in-Structure-clause-read : goal.read_elements-returns-in-Structure-clause-read
 read_elements-returns-in-Structure-clause-read t c =
-    let ts = fields_from (map type_of c.in-Structure.fields.items) in
+    let ts = fields_from (map type_of (arc_value c.in-Structure.fields).items) in
     let ty : type_of c.args.element.now ≡ structure ts = ap type_of c.in-Structure.is ∙ structure_seen c.in-Structure.fields in
-    let inner : fields_from (map type_of c.deref.result.now) ≡ ts = ap (λ (fs : List FixedType). fields_from (map type_of fs)) c.deref.ensures.value in
+    let inner : fields_from (map type_of c.deref-in-Structure.result.now) ≡ ts = fields_seen c.in-Structure.fields c.deref.result.now c.deref-in-Structure.result.now c.deref.ensures c.deref-in-Structure.ensures.value in
     subst (λ (u : TheType). IfOk c.read_structs.result (λ r. ReadAt (elements_of c.args.count u) c.args.frags.now c.args.at (data_from (map datum_of r.0.items)) r.1)) (ap structure inner ∙ sym ty) c.read_structs.ensures.read
 
 pub read_elements-returns-in-Structure-clause-stop : goal.read_elements-returns-in-Structure-clause-stop
 read_elements-returns-in-Structure-clause-stop t c =
-    let ts = fields_from (map type_of c.in-Structure.fields.items) in
+    let ts = fields_from (map type_of (arc_value c.in-Structure.fields).items) in
     let ty : type_of c.args.element.now ≡ structure ts = ap type_of c.in-Structure.is ∙ structure_seen c.in-Structure.fields in
-    let inner : fields_from (map type_of c.deref.result.now) ≡ ts = ap (λ (fs : List FixedType). fields_from (map type_of fs)) c.deref.ensures.value in
+    let inner : fields_from (map type_of c.deref-in-Structure.result.now) ≡ ts = fields_seen c.in-Structure.fields c.deref.result.now c.deref-in-Structure.result.now c.deref.ensures c.deref-in-Structure.ensures.value in
     subst (λ (u : TheType). IfErr c.read_structs.result (λ stop. StopsAt stop (elements_of c.args.count u) c.args.frags.now c.args.at)) (ap structure inner ∙ sym ty) c.read_structs.ensures.stop
 
 pub read_value-returns-in-Structure-clause-read : goal.read_value-returns-in-Structure-clause-read
 read_value-returns-in-Structure-clause-read t c =
-    let ts = fields_from (map type_of c.in-Structure.fields.items) in
+    let ts = fields_from (map type_of (arc_value c.in-Structure.fields).items) in
     let ty : type_of c.args.ty.now ≡ structure ts = ap type_of c.in-Structure.is ∙ structure_seen c.in-Structure.fields in
-    let inner : fields_from (map type_of c.deref-in-Structure.result.now) ≡ ts = ap (λ (fs : List FixedType). fields_from (map type_of fs)) c.deref-in-Structure.ensures.value in
+    let inner : fields_from (map type_of c.deref-in-Structure-3.result.now) ≡ ts = fields_seen c.in-Structure.fields c.deref-in-Structure-2.result.now c.deref-in-Structure-3.result.now c.deref-in-Structure-2.ensures c.deref-in-Structure-3.ensures.value in
     subst (λ (u : TheType). IfOk c.read_struct.result (λ r. ReadAt (values_of u) c.args.frags.now c.args.at (datum_of r.0) r.1)) (ap structure inner ∙ sym ty) c.read_struct.ensures.read
 
 pub read_value-returns-in-Structure-clause-stop : goal.read_value-returns-in-Structure-clause-stop
 read_value-returns-in-Structure-clause-stop t c =
-    let ts = fields_from (map type_of c.in-Structure.fields.items) in
+    let ts = fields_from (map type_of (arc_value c.in-Structure.fields).items) in
     let ty : type_of c.args.ty.now ≡ structure ts = ap type_of c.in-Structure.is ∙ structure_seen c.in-Structure.fields in
-    let inner : fields_from (map type_of c.deref-in-Structure.result.now) ≡ ts = ap (λ (fs : List FixedType). fields_from (map type_of fs)) c.deref-in-Structure.ensures.value in
+    let inner : fields_from (map type_of c.deref-in-Structure-3.result.now) ≡ ts = fields_seen c.in-Structure.fields c.deref-in-Structure-2.result.now c.deref-in-Structure-3.result.now c.deref-in-Structure-2.ensures c.deref-in-Structure-3.ensures.value in
     subst (λ (u : TheType). IfErr c.read_struct.result (λ stop. StopsAt stop (values_of u) c.args.frags.now c.args.at)) (ap structure inner ∙ sym ty) c.read_struct.ensures.stop
 
 pub read_value-returns-in_err-values-in-Array-clause-stop : goal.read_value-returns-in_err-values-in-Array-clause-stop

@@ -1,6 +1,5 @@
-use Rattle.std.proofs.Common.{◌∙◌, List, ap, refl, arith}
+use Rattle.std.proofs.Common.{refl, arith}
 use Rattle.fl_check.specs.Views.{before_of, list_of}
-use Rattle.fl_interface.specs.Interface.{TheType, structure, fields_from}
 use Rattle.fl_check.specs.Known.{field_type}
 use Rattle.fl_parse.specs.Tree.{field_of}
 use Rattle.fl_check.proofs.FirstFaults.{err_of}
@@ -41,9 +40,7 @@ loop-field-init c = record {
 }
 
 pub returns-clause-stands : goal.returns-clause-stands
-returns-clause-stands c =
-    let made = made_all field_of (field_type (before_of c.args.self.now)) c.args.fields.now c.loop-field.field-index _ (omega arith) c.loop-field.invariant.types in
-    c.into_struct.ensures.stands ∙ ap (λ (l : List TheType). structure (fields_from l)) made
+returns-clause-stands c = made_all field_of (field_type (before_of c.args.self.now)) c.args.fields.now c.loop-field.field-index _ (omega arith) c.loop-field.invariant.types
 
 pub returns-in_err-add_field-clause-memory : goal.returns-in_err-add_field-clause-memory
 returns-in_err-add_field-clause-memory c =
