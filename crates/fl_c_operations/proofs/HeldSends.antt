@@ -3,12 +3,22 @@ use denote.RattleType.{RattleType}
 use denote.Struct.Declared.{shape}
 use denote.Param.Send.{IsSend, sendable, recorded_send, struct_send, view_send}
 use Rattle.std.specs.contracts.option.Option.{the_row as OptionOf}
+use Rattle.std.specs.Prelude.{List}
 use Rattle.std.proofs.Crossing.{crosses, Vec-send}
+use Rattle.fl_value_data.specs.contracts.value.Call
+use Rattle.fl_compact_calls.specs.contracts.number_call.NumberCall
+use Rattle.fl_compile.specs.contracts.program.Program
+use Rattle.fl_machine.specs.Reassembling.{TheReassembly}
+use Rattle.fl_machine.specs.declared.reassemblies.Reassemblies as ReassembliesCode
+use Rattle.fl_machine.specs.contracts.reassembly.Assembly
+use Rattle.fl_machine.specs.contracts.reassemblies.ReassemblyPlaces as Places
 use Rattle.fl_machine.specs.contracts.reassemblies.Reassemblies
+use Rattle.fl_machine.specs.contracts.reassemblies.Reassemblies.TheInside as ReassembliesInside
 use Rattle.fl_codec.specs.contracts.codec.Codec
 use Rattle.fl_endpoint.specs.contracts.end.End
 use Rattle.fl_ring.specs.contracts.shared.duo_sides.SharedSide
 use Rattle.fl_endpoint.specs.View.{TheEnd}
+use Rattle.fl_c_operations.proofs.RunSends.{assembly_sends}
 use Rattle.fl_c_operations.specs.Seen.{TheLooked}
 use Rattle.fl_c_operations.specs.View.{TheHeld}
 use Rattle.fl_c_operations.specs.contracts.unread.UnreadCall
@@ -39,6 +49,33 @@ looked_inside side = recorded_send (LookedInside.the_field).row _ _ (LookedInsid
 
 pub looked_sends : IsSend SharedSide.the_row → IsSend Looked.the_row
 looked_sends side = view_send LookedInside.the_row TheLooked LookedCode.the_code Looked.the_view Looked.the_invariant (looked_inside side)
+
+places_field : IsSend Program.the_row → IsSend Call.the_row → IsSend NumberCall.the_row → IsSend (Places.the_field).row
+places_field program call number = struct_send (shape Places.the_type) (
+  search (sendable, crosses) depth 20,
+  (
+    Vec-send Assembly.the_row (assembly_sends program),
+    (
+      search (sendable, crosses) depth 40,
+      (
+        search (sendable, crosses) depth 40,
+        (
+          search (sendable, crosses) depth 40,
+          (search (sendable, crosses, call) depth 40, (search (sendable, crosses, number) depth 40, tt)),
+        ),
+      ),
+    ),
+  ),
+)
+
+reassemblies_inside : IsSend Program.the_row → IsSend Call.the_row → IsSend NumberCall.the_row → IsSend ReassembliesInside.the_row
+reassemblies_inside program call number = recorded_send (ReassembliesInside.the_field).row _ _ (ReassembliesInside.the_type).to_one
+    (struct_send (shape ReassembliesInside.the_type) (places_field program call number, tt))
+
+pub reassemblies_sends : IsSend Program.the_row → IsSend Call.the_row → IsSend NumberCall.the_row → IsSend Reassemblies.the_row
+reassemblies_sends program call number =
+    view_send ReassembliesInside.the_row (List TheReassembly) ReassembliesCode.the_code Reassemblies.the_view Reassemblies.the_invariant
+    (reassemblies_inside program call number)
 
 held_inside : IsSend Transmitting.the_row → IsSend Looked.the_row → IsSend Reassemblies.the_row → IsSend UnreadCall.the_row → IsSend HeldInside.the_row
 held_inside end side calls call = recorded_send (HeldInside.the_field).row _ _ (HeldInside.the_type).to_one

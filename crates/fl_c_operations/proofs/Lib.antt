@@ -6,6 +6,7 @@ mod HandleSends
 mod HeldSends
 mod Looking
 mod Messages
+mod Numbers
 mod OneFragment
 mod Pairs
 mod Refused

@@ -6,6 +6,8 @@ use denote.Struct.Declared.{shape}
 use denote.Param.Send.{IsSend, SendAt, sendable, recorded_send, recorded_send_of, recorded_send_at, struct_send, struct_send_at, view_send}
 use Rattle.std.proofs.Crossing.{crosses}
 use Rattle.fl_compile.specs.contracts.program.Program
+use Rattle.fl_machine.proofs.recv.PartialCall.TheSendSync as partial
+use Rattle.fl_machine.specs.contracts.reassembly.Assembly
 use Rattle.fl_machine.specs.contracts.send.SendRun
 use Rattle.fl_machine.specs.contracts.recv.RecvRun
 use Rattle.fl_c_operations.specs.Runs.{TheSender, TheReceiver}
@@ -37,6 +39,16 @@ sender_inside program run = recorded_send_of (SenderInside.the_field).row _ _ (S
         recorded_send_at (Program.the_field).row _ _ (Program.the_type).to_one program d.program,
         (at_value (row_at Ts 2) (search (sendable, crosses) depth 20) a.1.1.0, (at_value (row_at Ts 3) (search (sendable, crosses, run) depth 40) a.1.1.1.0, tt)),
       ),
+    ))
+
+-- what isn't in the room of a call under way
+pub assembly_sends : IsSend Program.the_row → IsSend Assembly.the_row
+unfolding row_at
+assembly_sends program = recorded_send_of (Assembly.the_field).row _ _ (Assembly.the_type).to_one
+    (λ d. let a = (Assembly.the_type).to d in let Ts = (shape Assembly.the_type).fields in
+    struct_send_at (shape Assembly.the_type) a (
+      recorded_send_at (Program.the_field).row _ _ (Program.the_type).to_one program d.program,
+      (at_value (row_at Ts 1) (search (sendable, crosses, partial.the_send) depth 40) a.1.0, tt),
     ))
 
 pub sender_sends : IsSend Program.the_row → IsSend SendRun.the_row → IsSend Sender.the_row

@@ -1,5 +1,6 @@
 -- What each operation does at an end, exactly: by cases on what it came to. The end goes from h to t.
-use Rattle.std.specs.Prelude.{◌≡◌, ◌≢◌, ℕ, ◌-◌, ◌≤◌, ◌⊎◌, true, false, List, [], ◌∷◌, ◌++◌, length, Option, Some, None, IsSome, Result, Ok, Err}
+use Rattle.std.specs.Prelude.{◌≡◌, ◌≢◌, ℕ, ◌-◌, ◌≤◌, ◌⊎◌, true, false, List, [], ◌∷◌, ◌++◌, length}
+use Rattle.std.specs.Prelude.{Option, Some, None, IsSome, Result, Ok, Err}
 use Rattle.fl_base.specs.declared.fragment.Frag.{Frag}
 use Rattle.fl_base.specs.Control.{bare}
 use Rattle.fl_link.specs.Looks.{saw, found}
@@ -21,7 +22,8 @@ use Rattle.fl_c_operations.specs.declared.answer.Outcome.{Outcome}
 use Rattle.fl_c_operations.specs.declared.answer.Outcome.TheVariants.{Accepted, Wrote, NoRoom, Idle, Handled, PartTaken}
 use Rattle.fl_c_operations.specs.declared.answer.Outcome.TheVariants.{Acknowledgement, Nothing as NothingThere, Held, CallRead, CallTaken, RuleSet, Sending}
 use Rattle.fl_c_operations.specs.declared.answer.UseFault.{UseFault}
-use Rattle.fl_c_operations.specs.declared.answer.UseFault.TheVariants.{NoSuchOperation, WrongRoom, ShortRoom, Unread, End, Unwritten, HandledShort, HandledMemory}
+use Rattle.fl_c_operations.specs.declared.answer.UseFault.TheVariants.{NoSuchOperation, WrongRoom, ShortRoom, Unread, End, Unwritten}
+use Rattle.fl_c_operations.specs.declared.answer.UseFault.TheVariants.{HandledShort, HandledMemory}
 use Rattle.fl_c_operations.specs.declared.answer.Answered.{Answered}
 use Rattle.fl_c_operations.specs.Numbers.{answer_of}
 use Rattle.fl_c_operations.specs.Sides.{Tells}

@@ -305,6 +305,7 @@ impl HeldEnd {
                 }
             }
             Glance::Untaken => take_untaken(
+                self.alloc,
                 &mut self.end,
                 &mut self.side,
                 &mut self.calls,
@@ -325,7 +326,13 @@ impl HeldEnd {
     pub fn read(&mut self, room: &mut [u64]) -> Result<Outcome, UseFault>
         ensures reads { ReadsBy self.old room.old result self.new room.new }
     {
-        read_unread(self.end.program(), &mut self.handled, &mut self.spare, room)
+        read_unread(
+            self.alloc,
+            self.end.program(),
+            &mut self.handled,
+            &mut self.spare,
+            room,
+        )
     }
 
     /// Sets a rule, by the numbers of the message and of the reply to it.

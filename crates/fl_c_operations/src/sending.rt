@@ -2,6 +2,8 @@
 
 ghost use denote.Param.Send.{IsSend};
 ghost use Rattle.fl_value_data.specs.contracts.value.Call as CallRows;
+ghost use Rattle.fl_compact_calls.specs.contracts.call.CompactCall as CompactCallRows;
+ghost use Rattle.fl_compact_calls.specs.contracts.number_call.NumberCall as NumberCallRows;
 ghost use Rattle.fl_codec.specs.contracts.codec.Codec as CodecRows;
 ghost use Rattle.fl_compile.specs.contracts.program.Program as ProgramRows;
 ghost use Rattle.fl_machine.specs.contracts.reassemblies.Reassemblies as ReassembliesRows;
@@ -21,9 +23,10 @@ ghost use Rattle.fl_c_operations.specs.contracts.handle.Handle as HandleRows;
 use crate::program::HeldProgram;
 use crate::unread::UnreadCall;
 use fl_codec::Codec;
+use fl_compact_calls::{CompactCall, NumberCall};
 use fl_compile::Program;
 use fl_endpoint::End;
-use fl_machine::{Reassemblies, RecvRun, SendRun};
+use fl_machine::{RecvRun, SendRun};
 use fl_ring::SharedSide;
 use fl_value_data::Call;
 
@@ -36,6 +39,20 @@ fn call_sent()
     ensures sent { IsSend CallRows.the_row }
 {
     sends::<Call>();
+}
+
+fn compact_call_sent()
+    ensures sent { IsSend CompactCallRows.the_row }
+{
+    call_sent();
+    sends::<CompactCall>();
+}
+
+fn number_call_sent()
+    ensures sent { IsSend NumberCallRows.the_row }
+{
+    call_sent();
+    sends::<NumberCall>();
 }
 
 fn program_sent()
@@ -69,7 +86,8 @@ fn calls_sent()
     ensures sent { IsSend ReassembliesRows.the_row }
 {
     program_sent();
-    sends::<Reassemblies>();
+    call_sent();
+    number_call_sent();
 }
 
 fn side_sent()
@@ -87,7 +105,7 @@ fn looked_sent()
 fn unread_sent()
     ensures sent { IsSend UnreadRows.the_row }
 {
-    call_sent();
+    compact_call_sent();
     sends::<UnreadCall>();
 }
 

@@ -14,7 +14,8 @@ ghost use Rattle.fl_endpoint.specs.Lent.{IsPlaceOf, receipt, ReceivesAt};
 ghost use Rattle.fl_endpoint.specs.Stored.{IsOwn};
 ghost use Rattle.fl_c_operations.specs.Codecs.{AreCodecs};
 ghost use Rattle.fl_c_operations.specs.Shorts.{AreNoShorts};
-ghost use Rattle.fl_c_operations.specs.Transmissions.{all_of, transmitting_frag, Transmits, RefusesFitting, holds_all, IsFragFrom, IsShortAt, IsNoShortAt, SendsOne};
+ghost use Rattle.fl_c_operations.specs.Transmissions.{all_of, transmitting_frag, Transmits, RefusesFitting, holds_all};
+ghost use Rattle.fl_c_operations.specs.Transmissions.{IsFragFrom, IsShortAt, IsNoShortAt, SendsOne};
 
 use crate::by_stub::{TapedCall, taped_call, taped_frag};
 use crate::codecs::codecs_of;

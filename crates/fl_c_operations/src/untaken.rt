@@ -17,6 +17,7 @@ use crate::unread::{UnreadCall, read_unread, stays};
 use fl_endpoint::{EndFault, ReceiveAnswer};
 use fl_machine::Reassemblies;
 use fl_wire::law_one_reading;
+use std::alloc::Global;
 
 // What a receive comes to, as it is told, and the call that stays to be read.
 fn received(
@@ -118,6 +119,7 @@ fn taken(read: Result<Outcome, UseFault>) -> Result<Outcome, UseFault>
 /// The same, and reads the call that becomes whole.
 #[inline(never)]
 pub(crate) fn take_untaken(
+    alloc: Global,
     end: &mut TransmittingEnd,
     side: &mut LookedSide,
     calls: &mut Reassemblies,
@@ -137,5 +139,5 @@ pub(crate) fn take_untaken(
     if handled.is_none() {
         return Answered::of(outcome);
     }
-    Answered::of(taken(read_unread(end.program(), handled, spare, room)))
+    Answered::of(taken(read_unread(alloc, end.program(), handled, spare, room)))
 }

@@ -4,17 +4,17 @@ ghost use Rattle.std.specs.Prelude.{◌≡◌, IfOk, IfSome};
 ghost use Rattle.fl_interface.specs.Interface.{interface_of};
 ghost use Rattle.fl_value_data.specs.Fits.{fits_of};
 ghost use Rattle.fl_value_data.specs.Value.{call_of};
-ghost use Rattle.fl_compact_calls.specs.Held.{one_number};
+ghost use Rattle.fl_compact_calls.specs.Held.{one_number, seen_in};
 
-use crate::holding::HeldCall;
+use crate::holding::{HeldCall, SeenCall};
 use crate::number_call::NumberCall;
 use fl_base::MsgNo;
 use fl_interface::Interface;
 use fl_value_data::Call;
 use std::alloc::{AllocError, Global};
-use std::fmt;
 use std::marker::Model;
 use std::snapshot::Snapshot;
+use std::{fmt, mem};
 
 /// A call in little memory. Contracts see it as the call that it was made of.
 #[derive(Drop)]
@@ -76,6 +76,40 @@ impl CompactCall {
         let was = Snapshot::of(spare.set(msg, number));
         let held = HeldCall::Number(msg, number);
         CompactCall { held, was }
+    }
+
+    /// As [`CompactCall::keep`], in memory that was used before, if there is some.
+    ///
+    /// # Errors
+    /// Out of memory.
+    #[inline(always)]
+    pub fn keep_in(
+        alloc: Global,
+        room: Option<Box<Call>>,
+        call: Call,
+    ) -> Result<CompactCall, AllocError>
+        ensures kept { IfOk result (λ c. c ≡ call) }
+    {
+        let was = Snapshot::of(&call);
+        let held = HeldCall::keep_in(alloc, room, call)?;
+        Ok(CompactCall { held, was })
+    }
+
+    /// The call takes the place of one. Gives the memory of that one, if it had some. Takes none.
+    #[inline(always)]
+    pub fn put_in(self, place: &mut CompactCall) -> Option<Box<Call>>
+        ensures put { place.new ≡ self }
+    {
+        let CompactCall { held, was: _ } = mem::replace(place, self);
+        held.into_memory()
+    }
+
+    /// The call as it is held.
+    #[inline(always)]
+    pub fn seen(&self) -> SeenCall<'_>
+        ensures seen { seen_in result ≡ call_of self.now }
+    {
+        self.held.seen()
     }
 
     /// Its number, where that is held as its one argument.

@@ -4,7 +4,7 @@ ghost use Rattle.std.specs.Prelude.{◌≡◌, IfOk, IfSome};
 ghost use Rattle.fl_interface.specs.Interface.{interface_of};
 ghost use Rattle.fl_value_data.specs.Fits.{fits_of};
 ghost use Rattle.fl_value_data.specs.Value.{call_of};
-ghost use Rattle.fl_compact_calls.specs.Held.{held_in, one_number};
+ghost use Rattle.fl_compact_calls.specs.Held.{held_in, seen_in, one_number};
 
 use crate::number::{one_number, takes_number};
 use crate::number_call::NumberCall;
@@ -20,6 +20,15 @@ pub(crate) enum HeldCall {
     Number(MsgNo, u64),
     /// Any other call.
     Other(Box<Call>),
+}
+
+/// A call as it is held.
+#[derive(Debug)]
+pub enum SeenCall<'a> {
+    /// One of one number: its message, and the number.
+    Number(MsgNo, u64),
+    /// Any other call.
+    Other(&'a Call),
 }
 
 #[inline(never)]
@@ -65,6 +74,45 @@ impl HeldCall {
         match one_number(&call.args) {
             Some(number) => Ok(HeldCall::Number(call.msg, number)),
             None => box_call(alloc, call),
+        }
+    }
+
+    // What is held of a call, in memory that was used before.
+    #[inline(always)]
+    pub(crate) fn keep_in(
+        alloc: Global,
+        room: Option<Box<Call>>,
+        call: Call,
+    ) -> Result<HeldCall, AllocError>
+        ensures kept { IfOk result (λ h. held_in h ≡ call_of call) }
+    {
+        match room {
+            None => HeldCall::keep(alloc, call),
+            Some(room) => {
+                let mut room = room;
+                *room = call;
+                Ok(HeldCall::Other(room))
+            }
+        }
+    }
+
+    // Its memory, if it has some.
+    #[inline(always)]
+    pub(crate) fn into_memory(self) -> Option<Box<Call>> {
+        match self {
+            HeldCall::Number(_, _) => None,
+            HeldCall::Other(call) => Some(call),
+        }
+    }
+
+    // What it is, without memory.
+    #[inline(always)]
+    pub(crate) fn seen(&self) -> SeenCall<'_>
+        ensures seen { seen_in result ≡ held_in self.now }
+    {
+        match self {
+            HeldCall::Number(msg, number) => SeenCall::Number(*msg, *number),
+            HeldCall::Other(call) => SeenCall::Other(call),
         }
     }
 

@@ -1,14 +1,15 @@
 //! Calls of one number.
 
-ghost use Rattle.std.specs.Prelude.{◌≡◌, IfSome, map};
+ghost use Rattle.std.specs.Prelude.{◌≡◌, IfSome, map, slice_get, true, false, if◌then◌else◌};
 ghost use Rattle.fl_interface.specs.Interface.{arg_type_of, interface_of};
-ghost use Rattle.fl_value_data.specs.Fits.{is_argument, are_arguments, fits_of};
+ghost use Rattle.fl_value_data.specs.Fits.{is_argument, is_signed, are_arguments, fits_of};
 ghost use Rattle.fl_value_data.specs.Value.{number, datum_of};
 ghost use Rattle.fl_compact_calls.specs.Held.{one_number};
+ghost use Rattle.fl_compact_calls.specs.Plain.{is_plain as is_plain_type, are_plain as are_plain_types, is_plain_message};
 ghost use Rattle.std.specs.Prelude.{pos};
 
 use fl_base::MsgNo;
-use fl_interface::{ArgType, Interface};
+use fl_interface::{ArgType, FixedType, Interface, Scalar};
 use fl_value_data::{Value, has_type};
 
 // The number of a value, if it is one below 2^64.
@@ -64,5 +65,50 @@ pub fn takes_number(interface: &Interface, msg: MsgNo, number: u64) -> bool
     match interface.messages.get(usize::from(msg.0)) {
         None => false,
         Some(message) => take_number(&message.args, number),
+    }
+}
+
+// Whether a scalar's numbers are all from 0 on.
+#[inline(always)]
+fn is_unsigned(scalar: Scalar) -> bool
+    ensures same { result ≡ (if is_signed scalar then false else true) }
+{
+    match scalar {
+        Scalar::Int8 | Scalar::Int16 | Scalar::Int32 | Scalar::Int64 | Scalar::Intptr => false,
+        _ => true,
+    }
+}
+
+// Whether an argument's value is the number on its tape.
+#[inline(always)]
+fn is_plain(argument: &ArgType) -> bool
+    ensures same { result ≡ is_plain_type (arg_type_of argument.now) }
+{
+    match argument {
+        ArgType::Fixed(FixedType::Scalar(scalar)) => is_unsigned(*scalar),
+        _ => false,
+    }
+}
+
+// Whether arguments are one, whose value is the number on its tape.
+#[inline(always)]
+fn are_plain(arguments: &[ArgType]) -> bool
+    ensures same { result ≡ are_plain_types (map arg_type_of arguments.now) }
+{
+    match arguments {
+        [] => false,
+        [argument] => is_plain(argument),
+        [_, _, ..] => false,
+    }
+}
+
+/// Whether a message of an interface has one argument alone, a scalar of numbers from 0 on: the tape of its call is then that number.
+#[inline(always)]
+pub fn has_plain_number(interface: &Interface, msg: MsgNo) -> bool
+    ensures same { result ≡ is_plain_message (slice_get (interface_of interface.now).messages msg.0) }
+{
+    match interface.messages.get(usize::from(msg.0)) {
+        None => false,
+        Some(message) => are_plain(&message.args),
     }
 }

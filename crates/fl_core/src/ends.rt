@@ -14,9 +14,10 @@ ghost use Rattle.fl_core.specs.Ends.{at_side, OnBoard, OverArrivals, RegistersAt
 use crate::one_core::Core;
 use crate::{AckAnswer, BoardFault, TurnAnswer};
 use fl_base::{Frag, MsgNo};
+use fl_compact_calls::CompactCall;
 use fl_endpoint::{End, EndFault, WriteAnswer};
 use fl_link::{PutSide, TakeSide};
-use fl_value_data::{Call, Value};
+use fl_value_data::Call;
 use std::alloc::AllocError;
 
 impl Core {
@@ -32,12 +33,33 @@ impl Core {
         self.board.call(e, call)
     }
 
-    /// Takes back the list of a call that was done with: the next call of one fragment stands in its memory. Its values are dropped then.
+    /// As [`Core::call`], of a call in little memory.
+    ///
+    /// # Errors
+    /// As [`Core::call`]'s. The core is as it was then.
+    #[inline]
+    pub fn call_compact(&mut self, e: usize, call: &CompactCall) -> Result<(), EndFault>
+        requires { e < length self.old.board.seats }
+        ensures calls { OnBoard self.old (λ b c. ChangesEnd b e (λ s t. Calls s (call_of call.now) result t) c) self.new }
+        ensures kept { OnErr result (self.new ≡ self.old) }
+    {
+        self.board.call_compact(e, call)
+    }
+
+    /// Takes back the memory of a call that was done with: the next call that isn't of one number stands in it. Its values are dropped then.
     #[inline(always)]
-    pub fn give_back(&mut self, values: Vec<Value>)
+    pub fn give_back(&mut self, call: Box<Call>)
         ensures same { self.new ≡ self.old }
     {
-        self.board.give_back(values);
+        self.board.give_back(call);
+    }
+
+    /// Its dispatchers and ends are moved into memory that is asked for now, so into that of the thread on which this is called. Where there is none, all
+    /// stays where it is.
+    pub fn take_own_memory(&mut self)
+        ensures same { self.new ≡ self.old }
+    {
+        self.board.take_own_memory();
     }
 
     /// Sets a reply rule at an end ([`fl_endpoint::End::reply_rule`]). Takes no memory.

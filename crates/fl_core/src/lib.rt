@@ -43,6 +43,7 @@
 //! - `turns.rt`: turns
 //! - `seat.rt`, `dispatcher.rt`: what a board stores of an end and of a dispatcher
 //! - `waiting.rt`: where a channel waits
+//! - `own_memory.rt`: lists in memory of the thread on which a core runs
 //! - `law.rt`: what an event leaves alone
 //! - `kind.rt`: how fragments come to an end
 //! - `turn_answer.rt`: what a turn and an acknowledgement come to
@@ -65,6 +66,7 @@ mod numbers;
 mod one_board;
 mod one_core;
 mod opening;
+mod own_memory;
 mod places;
 mod registers;
 mod seat;
@@ -83,6 +85,7 @@ pub use kind::ChannelKind;
 pub use law::{law_one_dispatcher_changes, law_one_end_changes, law_turn_accounts};
 pub use one_board::Board;
 pub use one_core::Core;
+pub use own_memory::in_own_memory;
 pub use places::slot_of;
 pub use turn_answer::{AckAnswer, TurnAnswer};
 pub use wiring::{ArrivalPlace, EndWiring, Inlet, LinkSide, Outlet, WiredEnd};

@@ -15,15 +15,17 @@ ghost use Rattle.fl_core.specs.BoardInside.{HasNoRoom};
 use crate::board_fault::BoardFault;
 use crate::dispatcher::Dispatcher;
 use crate::kind::ChannelKind;
+use crate::own_memory::in_own_memory;
 use crate::seat::EndAtChannel;
 use fl_base::{ChanId, Circuit, Frag, MAX_CHANNELS, MsgNo};
+use fl_compact_calls::CompactCall;
 use fl_endpoint::{
     End, EndFault, WriteAnswer, law_bind_accounts, law_call_accounts, law_exchange_accounts,
     law_rule_accounts, law_write_accounts,
 };
 use fl_link::PutSide;
 use fl_machine::Reassemblies;
-use fl_value_data::{Call, Value};
+use fl_value_data::Call;
 use std::alloc::{AllocError, Global};
 use std::marker::Model;
 
@@ -264,12 +266,36 @@ impl Board {
         seat.end.call(call, &mut self.spare)
     }
 
-    /// Takes back the list of a call that was done with: the next call of one fragment stands in its memory. Its values are dropped then.
+    /// As [`Board::call`], of a call in little memory.
+    ///
+    /// # Errors
+    /// As [`Board::call`]'s. The board is as it was then.
+    #[inline]
+    pub fn call_compact(&mut self, e: usize, call: &CompactCall) -> Result<(), EndFault>
+        requires { e < length self.old.seats }
+        ensures calls { ChangesEnd self.old e (λ s t. Calls s (call_of call.now) result t) self.new }
+        ensures kept { OnErr result (self.new ≡ self.old) }
+    {
+        law_call_accounts();
+        let seat = &mut self.seats[e];
+        seat.end.call_compact(call, &mut self.spare)
+    }
+
+    /// Takes back the memory of a call that was done with: the next call that isn't of one number stands in it. Its values are dropped then.
     #[inline(always)]
-    pub fn give_back(&mut self, values: Vec<Value>)
+    pub fn give_back(&mut self, call: Box<Call>)
         ensures same { self.new ≡ self.old }
     {
-        self.calls.give_back(values);
+        self.calls.give_back(call);
+    }
+
+    /// Its dispatchers and ends are moved into memory that is asked for now, so into that of the thread on which this is called. Where there is none, all
+    /// stays where it is.
+    pub fn take_own_memory(&mut self)
+        ensures same { self.new ≡ self.old }
+    {
+        in_own_memory(self.alloc, &mut self.dispatchers);
+        in_own_memory(self.alloc, &mut self.seats);
     }
 
     /// The fragment that [`Board::write`] would put next ([`End::show`]).

@@ -1,13 +1,13 @@
 //! What a turn and an acknowledgement come to.
 
-use fl_value_data::Call;
+use fl_compact_calls::CompactCall;
 use fl_wire::WireFault;
 
 /// What a turn came to, at the end that was due.
 #[derive(Debug, Drop)]
 pub enum TurnAnswer {
     /// The fragment taken was the last of this call, which is handled.
-    Handle(Call),
+    Handle(CompactCall),
     /// The fragment taken goes on with a call.
     Part,
     /// A fragment of a call stands on the ring that was looked at: the channel is pending now.

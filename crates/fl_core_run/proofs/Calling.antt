@@ -27,11 +27,6 @@ pub call_left : {S : Type 0} (s : TheRun S) (k : TheCore) (answer : Result (Unit
 call_left s k (Ok done) is kept = absurd (cc)
 call_left s k (Err fault) is kept = ap (λ (c : TheCore). record s { core = c }) kept
 
--- a call that is lent is made as the call that it is
-pub lent : (k k2 : TheCore) (e : ℕ) (c d : TheCall) (answer : Result (Unit {0}) EndFault) → c ≡ d
-    → OnBoard k (λ b b2. ChangesEnd b e (λ x y. Calls x c answer y) b2) k2 → OnBoard k (λ b b2. ChangesEnd b e (λ x y. Calls x d answer y) b2) k2
-lent k k2 e c d answer same h = subst (λ (made : TheCall). OnBoard k (λ b b2. ChangesEnd b e (λ x y. Calls x made answer y) b2) k2) same h
-
 -- and its end would accept it
 pub accepting : (k k2 : TheCore) (name : EndId) (e : ℕ) (c : TheCall) (answer : Result (Unit {0}) EndFault) → lacks_to_call answer ≡ true → Some e ≡ place_of k name
     → OnBoard k (λ b b2. ChangesEnd b e (λ x y. Calls x c answer y) b2) k2 → AcceptsAt k name c

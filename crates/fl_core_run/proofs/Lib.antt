@@ -15,6 +15,7 @@ pub mod Stopping
 pub mod Writing
 pub mod Sounding
 pub mod Refusing
+pub mod Passing
 pub mod Rows
 pub mod AtProgress
 pub mod Sides

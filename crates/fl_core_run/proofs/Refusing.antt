@@ -48,7 +48,7 @@ module _ (x : TheEnd) (c : TheCall) (busy : is_busy x.outgoing ≡ true) where
   busy_refuses : Refuses x c
   busy_refuses = by_message (slice_get (interface_in x).messages c.msg) refl
 
-same_board : (b : TheBoard) (e : ℕ) (seat : TheEndAtChannel) → slice_get b.seats e ≡ Some seat → b ≡ with_end b e seat seat.end
+pub same_board : (b : TheBoard) (e : ℕ) (seat : TheEndAtChannel) → slice_get b.seats e ≡ Some seat → b ≡ with_end b e seat seat.end
 same_board b e seat stands = ap (λ (seats : List TheEndAtChannel). record b { seats = seats }) (sym (set_same b.seats e seat stands))
 
 -- so a call that isn't tried there is one that was refused

@@ -56,7 +56,6 @@ with_rings rings r = record {
   progresses = r.progresses;
   names = r.names;
   programs = r.programs;
-  spare = r.spare;
   idle = r.idle;
 }
 

@@ -57,12 +57,7 @@ fn note<S: CoreSides>(
             run.idle = 0;
             match progress {
                 None => Ok(()),
-                Some(place) => {
-                    let mut call = call;
-                    run.progresses[place].take(run.alloc, &mut call)?;
-                    run.core.give_back(call.args);
-                    Ok(())
-                }
+                Some(place) => run.progresses[place].take(call),
             }
         }
         TurnAnswer::Part | TurnAnswer::Ready => {

@@ -6,7 +6,6 @@ ghost use Rattle.fl_core_run.specs.EndProgress.{advanced, is_clear, with_handled
 use fl_base::{EndId, MAX_BINDINGS};
 use fl_compact_calls::CompactCall;
 use fl_core::slot_of;
-use fl_value_data::Call;
 use std::alloc::{AllocError, Global};
 use std::marker::Model;
 
@@ -74,12 +73,16 @@ impl EndProgress {
         self.done += 1;
     }
 
-    // A call was handled at its end. Its list is left, for the core's next call.
-    pub(crate) fn take(&mut self, alloc: Global, call: &mut Call) -> Result<(), AllocError>
-        ensures taken { OnOk result (self.new ≡ with_handled call.old self.old) }
+    // A call was handled at its end.
+    #[inline(always)]
+    pub(crate) fn take(&mut self, call: CompactCall) -> Result<(), AllocError>
+        ensures taken { OnOk result (self.new ≡ with_handled call self.old) }
         ensures kept { OnErr result (self.new ≡ self.old) }
     {
-        let call = CompactCall::take(alloc, call)?;
+        if self.handled.is_empty() {
+            // Where there is no memory for all that are due, it goes on without.
+            let _ = self.handled.reserve(self.due);
+        }
         let Ok(()) = self.handled.push(call) else {
             return Err(AllocError);
         };

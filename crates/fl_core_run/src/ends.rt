@@ -94,8 +94,7 @@ fn try_call<S: CoreSides>(
             if run.core.board().end(e).is_busy() {
                 return Ok(Some(e));
             }
-            let call = next.lend(&mut run.spare);
-            let answer = run.core.call(e, call);
+            let answer = run.core.call_compact(e, next);
             if is_memory(answer) {
                 return Err(AllocError);
             }
@@ -190,18 +189,20 @@ pub(crate) fn write<S: CoreSides>(run: &mut RunningCore<S>, place: Option<usize>
         (run_by S.states run.old) (run_by S.states run.new)) }
 {
     law_sound(run);
-    match place {
-        None => (),
-        Some(e) => match lent_post(run, e) {
-            None => (),
-            Some(post) => {
-                law_sound_at(run, e);
-                let answer = write_to(run, e, post.outlet);
-                if matches!(answer, Ok(WriteAnswer::Written { .. })) {
-                    run.idle = 0;
-                }
-            }
-        },
+    let Some(e) = place else {
+        return;
+    };
+    law_sound_at(run, e);
+    // nothing would be written
+    if !run.core.board().end(e).is_busy() {
+        return;
+    }
+    let Some(post) = lent_post(run, e) else {
+        return;
+    };
+    let answer = write_to(run, e, post.outlet);
+    if matches!(answer, Ok(WriteAnswer::Written { .. })) {
+        run.idle = 0;
     }
 }
 

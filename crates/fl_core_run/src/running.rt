@@ -16,9 +16,8 @@ use crate::ends::{ack_all, serve_all};
 use crate::links::{forward_all, say_all, tell_all};
 use crate::plan::TurnPlan;
 use fl_base::EndId;
-use fl_compact_calls::NumberCall;
 use fl_compile::Program;
-use fl_core::{Core, CoreJob};
+use fl_core::{Core, CoreJob, in_own_memory};
 use fl_hop::law_never_shared;
 use fl_link::QueueLink;
 use fl_nameserv::Names;
@@ -39,8 +38,6 @@ pub struct RunningCore<S> {
     pub names: Names,
     /// The programs of the services' interfaces, by their places.
     pub programs: Vec<Program>,
-    /// The memory in which calls of one number are made. No clause speaks of it.
-    pub spare: NumberCall,
     /// How many turns on end found nothing to do: after those the core pauses. No clause speaks of it.
     pub idle: u32,
 }
@@ -85,6 +82,17 @@ impl<S: CoreSides> RunningCore<S> {
 }
 
 impl<S: CoreSides> RunningCore<S> {
+    /// What its turns write is moved into memory that is asked for now, but for its sides; where there is none, it stays where it is. A core's thread calls
+    /// this as it starts. One thread made all cores, so what one core writes lies beside what another reads, and the two would wait for each other; memory
+    /// that a thread asks for is its own.
+    pub fn take_own_memory(&mut self)
+        ensures same { run_by S.states self.new ≡ run_by S.states self.old }
+        ensures rings { self.new.rings ≡ self.old.rings }
+    {
+        self.core.take_own_memory();
+        in_own_memory(self.alloc, &mut self.progresses);
+    }
+
     /// One turn: a forward for each link, a monitor write for each link, for each end its next job where that can be done and one write, a turn for
     /// each dispatcher, an acknowledgement for each link and each end of a ring. It takes no memory but where a call is made or becomes whole, a circuit is
     /// begun, or a monitors' message is heard at which something is said.

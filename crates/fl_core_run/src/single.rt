@@ -30,7 +30,6 @@ impl<R> RunningCore<R> {
             progresses: self.progresses,
             names: self.names,
             programs: self.programs,
-            spare: self.spare,
             idle: self.idle,
         };
         (core, self.rings)

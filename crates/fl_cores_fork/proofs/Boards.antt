@@ -1,13 +1,25 @@
--- A board may go to a thread, and so may a core.
+-- Calls under way may go to a thread, and so may a board and a core.
 use denote.Struct.Declared.{shape}
-use denote.Param.Send.{IsSend, sendable, recorded_send, struct_send, view_send}
-use Rattle.std.proofs.Crossing.{crosses}
+use denote.Param.Send.{IsSend, SendAt, sendable, recorded_send, recorded_send_of, recorded_send_at, struct_send, struct_send_at, view_send}
+use Rattle.std.proofs.Common.{ℕ, zero, suc, List, [], ◌∷◌}
+use denote.Builtin.{u8}
+use denote.RattleType.{RattleType}
+use Rattle.std.proofs.Crossing.{crosses, Vec-send}
 use Rattle.fl_core.proofs.dispatcher.Dispatcher.TheSendSync as dispatcher
 use Rattle.fl_core.proofs.kind.ChannelKind.TheSendSync as kind
 use Rattle.fl_core.proofs.wiring.WiredEnd.TheSendSync as wired_end
 use Rattle.fl_core.proofs.wiring.LinkSide.TheSendSync as link_side
 use Rattle.fl_endpoint.specs.contracts.end.End
+use Rattle.fl_value_data.specs.contracts.value.Call
+use Rattle.fl_compact_calls.specs.contracts.number_call.NumberCall
+use Rattle.fl_compile.specs.contracts.program.Program
+use Rattle.fl_machine.specs.Reassembling.{TheReassembly}
+use Rattle.fl_machine.specs.declared.reassemblies.Reassemblies as ReassembliesCode
+use Rattle.fl_machine.proofs.recv.PartialCall.TheSendSync as partial
+use Rattle.fl_machine.specs.contracts.reassembly.Assembly
+use Rattle.fl_machine.specs.contracts.reassemblies.ReassemblyPlaces as Places
 use Rattle.fl_machine.specs.contracts.reassemblies.Reassemblies
+use Rattle.fl_machine.specs.contracts.reassemblies.Reassemblies.TheInside as ReassembliesInside
 use Rattle.fl_base.proofs.identity.ChanId.TheSendSync as channel
 use Rattle.fl_core.specs.BoardView.{TheBoard, TheEndAtChannel}
 use Rattle.fl_core.specs.declared.seat.EndAtChannel as SeatCode
@@ -41,6 +53,53 @@ seat_inside end = recorded_send (SeatInside.the_field).row _ _ (SeatInside.the_t
 
 seat_sends : IsSend End.the_row → IsSend Seat.the_row
 seat_sends end = view_send SeatInside.the_row TheEndAtChannel SeatCode.the_code Seat.the_view Seat.the_invariant (seat_inside end)
+
+-- what may go at any value may go at one
+at_value : (R : RattleType) → IsSend R → (x : R.Denot) → SendAt R x
+at_value R s x = (s.owned x, λ k. s.leaving k x)
+
+-- the row of a field
+row_at : List RattleType → ℕ → RattleType
+row_at [] n = u8
+row_at (R ∷ Ts) zero = R
+row_at (R ∷ Ts) (suc n) = row_at Ts n
+
+-- a program may go at what a program is, not at any parts
+assembly_sends : IsSend Program.the_row → IsSend Assembly.the_row
+unfolding row_at
+assembly_sends program = recorded_send_of (Assembly.the_field).row _ _ (Assembly.the_type).to_one
+    (λ d. let a = (Assembly.the_type).to d in let Ts = (shape Assembly.the_type).fields in
+    struct_send_at (shape Assembly.the_type) a (
+      recorded_send_at (Program.the_field).row _ _ (Program.the_type).to_one program d.program,
+      (at_value (row_at Ts 1) (search (sendable, crosses, partial.the_send) depth 40) a.1.0, tt),
+    ))
+
+places_field : IsSend Program.the_row → IsSend Call.the_row → IsSend NumberCall.the_row → IsSend (Places.the_field).row
+places_field program call number = struct_send (shape Places.the_type) (
+  search (sendable, crosses) depth 20,
+  (
+    Vec-send Assembly.the_row (assembly_sends program),
+    (
+      search (sendable, crosses) depth 40,
+      (
+        search (sendable, crosses) depth 40,
+        (
+          search (sendable, crosses) depth 40,
+          (search (sendable, crosses, call) depth 40, (search (sendable, crosses, number) depth 40, tt)),
+        ),
+      ),
+    ),
+  ),
+)
+
+reassemblies_inside : IsSend Program.the_row → IsSend Call.the_row → IsSend NumberCall.the_row → IsSend ReassembliesInside.the_row
+reassemblies_inside program call number = recorded_send (ReassembliesInside.the_field).row _ _ (ReassembliesInside.the_type).to_one
+    (struct_send (shape ReassembliesInside.the_type) (places_field program call number, tt))
+
+pub reassemblies_sends : IsSend Program.the_row → IsSend Call.the_row → IsSend NumberCall.the_row → IsSend Reassemblies.the_row
+reassemblies_sends program call number =
+    view_send ReassembliesInside.the_row (List TheReassembly) ReassembliesCode.the_code Reassemblies.the_view Reassemblies.the_invariant
+    (reassemblies_inside program call number)
 
 board_inside : IsSend End.the_row → IsSend Reassemblies.the_row → IsSend BoardInside.the_row
 board_inside end calls = recorded_send (BoardInside.the_field).row _ _ (BoardInside.the_type).to_one

@@ -6,7 +6,6 @@ use Rattle.fl_core_run.proofs.plan.TurnPlan.TheSendSync as plan
 use Rattle.fl_core_run.proofs.run_seat.RunSeat.TheSendSync as run_seat
 use Rattle.fl_core_run.proofs.run.Part.TheSendSync as part
 use Rattle.fl_cores_shares.proofs.side_record.SideRecord.TheSendSync as side_record
-use Rattle.fl_compact_calls.specs.contracts.number_call.NumberCall
 use Rattle.fl_compile.specs.contracts.program.Program
 use Rattle.fl_link.specs.contracts.queue.QueueLink
 use Rattle.fl_nameserv.specs.contracts.names.Names
@@ -19,8 +18,8 @@ use Rattle.fl_cores_fork.specs.contracts.core_thread.FinishedCore as Done
 
 -- a core with its sides, queues and ends' progress
 pub running_sends : IsSend Core.the_row → IsSend HistorySides.the_row → IsSend QueueLink.the_row → IsSend EndProgress.the_row → IsSend Names.the_row
-    → IsSend Program.the_row → IsSend NumberCall.the_row → IsSend (Running.the_field HistorySides.the_row).row
-running_sends core side queue progress names program number_call = struct_send (shape (Running.the_type HistorySides.the_row)) (
+    → IsSend Program.the_row → IsSend (Running.the_field HistorySides.the_row).row
+running_sends core side queue progress names program = struct_send (shape (Running.the_type HistorySides.the_row)) (
   search (sendable, crosses) depth 20,
   (
     core,
@@ -34,7 +33,7 @@ running_sends core side queue progress names program number_call = struct_send (
             names,
             (
               search (sendable, crosses, program) depth 40,
-              (number_call, (search (sendable, crosses) depth 20, tt)),
+              (search (sendable, crosses) depth 20, tt),
             ),
           ),
         ),

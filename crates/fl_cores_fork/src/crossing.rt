@@ -30,7 +30,6 @@ use fl_core_run::EndProgress;
 use fl_endpoint::End;
 use fl_history_sides::HistorySides;
 use fl_link::QueueLink;
-use fl_machine::Reassemblies;
 use fl_monitor::{Messenger, Monitor};
 use fl_nameserv::Names;
 use fl_value_data::Call;
@@ -83,7 +82,8 @@ fn calls_sent()
     ensures sent { IsSend ReassembliesRows.the_row }
 {
     program_sent();
-    assert_send::<Reassemblies>();
+    call_sent();
+    number_call_sent();
 }
 
 fn board_sent()
@@ -177,7 +177,6 @@ fn running_sent()
     progress_sent();
     names_sent();
     program_sent();
-    number_call_sent();
 }
 
 // All that a core's thread is given may, by itself and as a part.

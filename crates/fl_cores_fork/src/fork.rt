@@ -18,7 +18,7 @@ use crate::no_report::NoReport;
 use crate::noting::{records_if, run_thread};
 use crate::pace::{Pace, PacedGate};
 use fl_core::{Core, CoreJob};
-use fl_core_run::{CoreSides, Gate, core_run};
+use fl_core_run::Gate;
 use fl_cores_shares::SideRecord;
 use fl_cores_table::EndSeat;
 use fl_hop::law_never_shared;
@@ -60,40 +60,6 @@ pub(crate) fn law_sound(core: &Core)
     law_never_shared(core.monitor().circuits());
     for e in 0..core.board().ends() {
         law_sound_at(core, e);
-    }
-}
-
-// A core's whole run.
-pub(crate) fn run_one<R: Wait, G: Gate>(
-    rt: &R,
-    gate: &G,
-    core_thread: CoreThread,
-    jobs: &[CoreJob],
-    limit: u64,
-) -> Result<FinishedCore, AllocError>
-    requires ready { IsReady core_thread }
-    ensures ran { IfOk result (λ d. CoreThreadRan jobs.now limit core_thread d) }
-{
-    let mut core_thread = core_thread;
-    match core_run(
-        rt,
-        &mut *core_thread.running,
-        &core_thread.plan,
-        jobs,
-        limit,
-        &mut core_thread.run_seat,
-        gate,
-    ) {
-        Ok(part) => {
-            law_sound(&core_thread.running.core);
-            core_thread.running.rings.shows();
-            Ok(FinishedCore {
-                core_thread,
-                part,
-                records: None,
-            })
-        }
-        Err(_) => Err(AllocError),
     }
 }
 

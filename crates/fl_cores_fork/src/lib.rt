@@ -7,7 +7,7 @@
 //! - `core_thread.rt`: a core as its thread has it
 //! - `crossing.rt`: what may go to a thread
 //! - `fork.rt`: a thread for each core
-//! - `noting.rt`: a core's run over sides that note what they do
+//! - `noting.rt`: a core's run on its thread, also over sides that note what they do
 //! - `no_report.rt`: why there is no report
 //! - `pace.rt`: cores over which calls pass both ways keep step
 //! - `telling.rt`: the report

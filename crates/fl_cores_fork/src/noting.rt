@@ -1,11 +1,11 @@
-//! A core's run over sides that note what they do.
+//! A core's run on its thread; and over sides that note what they do.
 
 ghost use Rattle.std.specs.Prelude.{◌≡◌, ◌<◌, false, length, None, IfOk};
 ghost use Rattle.fl_core_run.specs.OpeningStatus.{AreWords};
 ghost use Rattle.fl_cores_fork.specs.CoreThreads.{noted_run, noting_run, RanNoted, IsReady, CoreThreadRan};
 
 use crate::core_thread::{CoreThread, FinishedCore};
-use crate::fork::{law_sound, run_one};
+use crate::fork::law_sound;
 use core::mem::replace_with;
 use fl_core::CoreJob;
 use fl_core_run::{CoreSides, Gate, Part, RunSeat, RunningCore, TurnPlan, core_run};
@@ -38,7 +38,42 @@ fn over_own(running: RunningCore<NotingSides>) -> (RunningCore<HistorySides>, Ve
     (running, records)
 }
 
-// The core's run, over such sides.
+// What the core's turns write is moved into memory of the thread on which this is called, where there is some.
+fn take_own_memory(running: &mut RunningCore<HistorySides>)
+    ensures same { noted_run running.new ≡ noted_run running.old }
+{
+    running.take_own_memory();
+    running.rings.take_own_memory(running.alloc);
+}
+
+// The core's run, over its own sides.
+fn run_own<R: Wait, G: Gate>(
+    rt: &R,
+    gate: &G,
+    running: &mut RunningCore<HistorySides>,
+    plan: &TurnPlan,
+    jobs: &[CoreJob],
+    limit: u64,
+    run_seat: &mut RunSeat,
+) -> Result<Part, AllocError>
+    requires as_many { length run_seat.old.words.items ≡ length plan.now.ends.items }
+    requires may { AreWords run_seat.old.words.items run_seat.old.seat.knows }
+    requires silent { (run_seat.old.seat.knows.finished < length run_seat.old.seat.knows.cores)
+        × (run_seat.old.seat.knows.stopped < run_seat.old.seat.knows.seats) }
+    ensures ran { IfOk result (λ part. RanNoted jobs.now limit plan.now (noted_run running.old) run_seat.old part
+        (noted_run running.new) run_seat.new) }
+{
+    match core_run(rt, running, plan, jobs, limit, run_seat, gate) {
+        Ok(part) => {
+            law_sound(&running.core);
+            running.rings.shows();
+            Ok(part)
+        }
+        Err(_) => Err(AllocError),
+    }
+}
+
+// The core's run, over sides that note.
 fn run_over<R: Wait, G: Gate>(
     rt: &R,
     gate: &G,
@@ -65,15 +100,47 @@ fn run_over<R: Wait, G: Gate>(
     }
 }
 
-// What a run over sides that note came to, beside its core.
+// What a run came to, beside its core.
 #[derive(Drop)]
-struct NotedRun {
+struct EndedRun {
     part: Part,
     run_seat: RunSeat,
-    records: Vec<SideRecord>,
+    records: Option<Vec<SideRecord>>,
 }
 
-// A core's whole run over sides that note; and the core over its own sides again.
+// A core's whole run over its own sides.
+fn run_plain<R: Wait, G: Gate>(
+    rt: &R,
+    gate: &G,
+    running: RunningCore<HistorySides>,
+    run_seat: RunSeat,
+    plan: &TurnPlan,
+    jobs: &[CoreJob],
+    limit: u64,
+) -> (RunningCore<HistorySides>, Result<EndedRun, AllocError>)
+    requires as_many { length run_seat.words.items ≡ length plan.now.ends.items }
+    requires may { AreWords run_seat.words.items run_seat.seat.knows }
+    requires silent { (run_seat.seat.knows.finished < length run_seat.seat.knows.cores)
+        × (run_seat.seat.knows.stopped < run_seat.seat.knows.seats) }
+    ensures ran { IfOk result.1 (λ n. RanNoted jobs.now limit plan.now (noted_run running) run_seat n.part
+        (noted_run result.0) n.run_seat) }
+{
+    let mut running = running;
+    let mut run_seat = run_seat;
+    match run_own(rt, gate, &mut running, plan, jobs, limit, &mut run_seat) {
+        Ok(part) => (
+            running,
+            Ok(EndedRun {
+                part,
+                run_seat,
+                records: None,
+            }),
+        ),
+        Err(_) => (running, Err(AllocError)),
+    }
+}
+
+// The same over sides that note; and the core over its own sides again.
 fn run_noted<R: Wait, G: Gate>(
     rt: &R,
     gate: &G,
@@ -83,7 +150,7 @@ fn run_noted<R: Wait, G: Gate>(
     plan: &TurnPlan,
     jobs: &[CoreJob],
     limit: u64,
-) -> (RunningCore<HistorySides>, Result<NotedRun, AllocError>)
+) -> (RunningCore<HistorySides>, Result<EndedRun, AllocError>)
     requires as_many { length run_seat.words.items ≡ length plan.now.ends.items }
     requires may { AreWords run_seat.words.items run_seat.seat.knows }
     requires silent { (run_seat.seat.knows.finished < length run_seat.seat.knows.cores)
@@ -98,53 +165,41 @@ fn run_noted<R: Wait, G: Gate>(
     match ran {
         Ok(part) => (
             running,
-            Ok(NotedRun {
+            Ok(EndedRun {
                 part,
                 run_seat,
-                records,
+                records: Some(records),
             }),
         ),
         Err(_) => (running, Err(AllocError)),
     }
 }
 
-// The same of a core in its box, where it stays.
-fn run_noting<R: Wait, G: Gate>(
+// A core's whole run, over sides that note where there are records for that. What it writes lies in the thread's own memory meanwhile: the core
+// in this frame, and its lists in what is asked for here.
+fn run_either<R: Wait, G: Gate>(
     rt: &R,
     gate: &G,
-    core_thread: CoreThread,
-    records: Vec<SideRecord>,
+    running: RunningCore<HistorySides>,
+    records: Option<Vec<SideRecord>>,
+    run_seat: RunSeat,
+    plan: &TurnPlan,
     jobs: &[CoreJob],
     limit: u64,
-) -> Result<FinishedCore, AllocError>
-    requires ready { IsReady core_thread }
-    ensures ran { IfOk result (λ d. CoreThreadRan jobs.now limit core_thread d) }
+) -> (RunningCore<HistorySides>, Result<EndedRun, AllocError>)
+    requires as_many { length run_seat.words.items ≡ length plan.now.ends.items }
+    requires may { AreWords run_seat.words.items run_seat.seat.knows }
+    requires silent { (run_seat.seat.knows.finished < length run_seat.seat.knows.cores)
+        × (run_seat.seat.knows.stopped < run_seat.seat.knows.seats) }
+    ensures ran { IfOk result.1 (λ n. RanNoted jobs.now limit plan.now (noted_run running) run_seat n.part
+        (noted_run result.0) n.run_seat) }
 {
-    let CoreThread {
-        running,
-        plan,
-        run_seat,
-    } = core_thread;
     let mut running = running;
-    let noted = replace_with(
-        &mut *running,
-        (records, run_seat),
-        |own, (records, run_seat)| run_noted(rt, gate, own, records, run_seat, &plan, jobs, limit),
-    );
-    let NotedRun {
-        part,
-        run_seat,
-        records,
-    } = noted?;
-    Ok(FinishedCore {
-        core_thread: CoreThread {
-            running,
-            plan,
-            run_seat,
-        },
-        part,
-        records: Some(records),
-    })
+    take_own_memory(&mut running);
+    match records {
+        Some(records) => run_noted(rt, gate, running, records, run_seat, plan, jobs, limit),
+        None => run_plain(rt, gate, running, run_seat, plan, jobs, limit),
+    }
 }
 
 // Room for so many records more than are asked for: so the records of two cores, for which memory is asked one behind the
@@ -161,8 +216,8 @@ fn fresh_records(alloc: Global, count: usize) -> Result<Vec<SideRecord>, AllocEr
 }
 
 /// All that a core's recorded run wants memory for, but for notes beyond the first of each side: a record for each, where
-/// the run is to be recorded and there is memory for that. They are there before the core's thread is: so no thread asks for
-/// memory as it starts, and want of it costs the record, not the report.
+/// the run is to be recorded and there is memory for that. They are there before the core's thread is: so want of memory costs the
+/// record, not the report.
 pub(crate) fn records_if(is_recorded: bool, core_thread: &CoreThread) -> Option<Vec<SideRecord>>
     ensures none { is_recorded ≡ false → result ≡ None }
 {
@@ -186,8 +241,29 @@ pub(crate) fn run_thread<R: Wait, G: Gate>(
     requires ready { IsReady core_thread }
     ensures ran { IfOk result (λ d. CoreThreadRan jobs.now limit core_thread d) }
 {
-    match records {
-        Some(records) => run_noting(rt, gate, core_thread, records, jobs, limit),
-        None => run_one(rt, gate, core_thread, jobs, limit),
-    }
+    let CoreThread {
+        running,
+        plan,
+        run_seat,
+    } = core_thread;
+    let mut running = running;
+    let ended = replace_with(
+        &mut *running,
+        (records, run_seat),
+        |own, (records, run_seat)| run_either(rt, gate, own, records, run_seat, &plan, jobs, limit),
+    );
+    let EndedRun {
+        part,
+        run_seat,
+        records,
+    } = ended?;
+    Ok(FinishedCore {
+        core_thread: CoreThread {
+            running,
+            plan,
+            run_seat,
+        },
+        part,
+        records,
+    })
 }

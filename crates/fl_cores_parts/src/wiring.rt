@@ -19,7 +19,6 @@ ghost use Rattle.fl_cores_parts.specs.CoreThreads.{core_share, stationed, AddsCo
 
 use crate::sharing::{SideOwners, deal_sides, hand_out_queues};
 use fl_base::{EndId, LinkId, Side};
-use fl_compact_calls::NumberCall;
 use fl_compile::Program;
 use fl_core::{Core, slot_of};
 use fl_core_run::{EndProgress, OpeningStatus, RunSeat, RunningCore, TurnPlan};
@@ -258,7 +257,6 @@ impl CoreInputs<'_> {
         ensures programs { IfOk result (λ r. map program_of r.value.programs.items ≡ map program_of self.now.programs.now) }
     {
         let outfit = self.outfit(k)?;
-        let spare = NumberCall::new(self.alloc)?;
         let running = RunningCore {
             alloc: self.alloc,
             core,
@@ -267,7 +265,6 @@ impl CoreInputs<'_> {
             progresses: outfit.progresses,
             names: outfit.names,
             programs: outfit.programs,
-            spare,
             idle: 0,
         };
         Ok(Box::new(self.alloc, running)?)

@@ -1,3 +1,4 @@
+mod Numbers
 mod Outgoings
 mod Sendings
 mod Sounds

@@ -2,22 +2,26 @@
 use Rattle.std.proofs.Common.{◌≡◌, ℕ, ◌+◌, ◌/◌, ◌%◌, ◌^◌, ◌<◌, ◌==◌, ◌&&◌, Bool, true, false, List, [], ◌∷◌, map, drop, length, get_or, Option, Some, None, refl, sym, ap, subst, ◌∙◌, arith, rules}
 use Rattle.std.specs.Prelude.{slice_get, IsSome}
 use Rattle.std.specs.Global.{Vec}
-use Rattle.std.specs.List.{range_with_len, list_all}
+use Rattle.std.specs.List.{range_with_len, list_all, zip, flat_map}
 use Rattle.std.specs.Option.{option_map}
 use Rattle.std.proofs.lemmas.Bool.{false≢true}
 use Rattle.std.proofs.lemmas.List.{length-map, length-drop, drop_more}
 use Rattle.std.proofs.lemmas.List.FromFn.{length-range_with_len, length-map-range_with_len, get_or-map-range_with_len}
 use Rattle.fl_base.specs.declared.fragment.Frag.{Frag}
 use Rattle.fl_base.specs.Control.{control_word, body}
-use Rattle.fl_interface.specs.Interface.{TheMessage, TheInterface}
+use Rattle.fl_interface.specs.Interface.{TheArgType, TheMessage, TheInterface}
 use Rattle.fl_interface.specs.Limits.{is_within_limits}
 use Rattle.fl_value_data.specs.Value.{TheCall}
 use Rattle.fl_value_data.specs.Fits.{fits_of, fit_message}
-use Rattle.fl_value_data.specs.Tape.{tape_of}
+use Rattle.fl_value_data.specs.Plan.{arranged}
+use Rattle.fl_value_data.specs.Tape.{kind, tape_of_argument, tape_of}
+use Rattle.fl_compact_calls.specs.Held.{one_number}
+use Rattle.fl_compact_calls.specs.Plain.{is_plain_message}
+use Rattle.fl_compact_calls.proofs.Plain.{OfNumber, of_number}
 use Rattle.fl_value_data.specs.declared.value.PlanNo.{PlanNo}
-use Rattle.fl_layout.specs.Leaves.{leaves}
+use Rattle.fl_layout.specs.Leaves.{Leaf, arguments_onto, leaves}
 use Rattle.fl_layout.specs.Places.{size, count, count_for}
-use Rattle.fl_wire.specs.Payload.{payload_at, payload_of, frag_on, frags_on}
+use Rattle.fl_wire.specs.Payload.{payload_at, payload_bytes, payload_of, frag_on, frags_on}
 use Rattle.fl_wire.specs.Words.{interface_words_fit}
 use Rattle.fl_stub.specs.declared.op.Column.TheVariants.{Send}
 use Rattle.fl_stub.specs.Code.{TheCode}
@@ -28,11 +32,13 @@ use Rattle.fl_compile.specs.Programs.{TheProgram}
 use Rattle.fl_machine.specs.Sending.{frags_holding}
 use Rattle.fl_machine.specs.Laws.{SendsFragments}
 use Rattle.fl_endpoint.specs.declared.outgoing.CallBody.{CallBody}
-use Rattle.fl_endpoint.specs.declared.outgoing.CallBody.TheVariants.{Tape, Payload}
+use Rattle.fl_endpoint.specs.declared.outgoing.CallBody.TheVariants.{Tape, Payload, Number}
 use Rattle.fl_endpoint.specs.declared.outgoing.QueuedCall.{QueuedCall}
 use Rattle.fl_endpoint.specs.declared.outgoing.SendingCall.{SendingCall}
 use Rattle.fl_endpoint.specs.View.{are_some}
-use Rattle.fl_endpoint.specs.Stored.{code_for, payload_frags, tape_frags, body_frags, IsOwn, AreOwn, IsBody, IsSending, Queues}
+use Rattle.fl_endpoint.specs.Events.{SameTypes}
+use Rattle.fl_endpoint.specs.Stored.{code_for, payload_frags, tape_frags, body_frags, sent_as, IsOwn, AreOwn, IsShort, IsBody, IsSending, Queues}
+use Rattle.fl_endpoint.proofs.Numbers.{short_number}
 
 -- ---- a fragment of a call is carried unchanged by every link, and only acknowledges never
 
@@ -146,20 +152,42 @@ queues_body p c call body msg is of_body frags = record {
   frags = λ circuit. ap (λ (n : ℕ). body_frags p circuit n call.body) msg ∙ ap (body_frags p circuit c.msg) is ∙ frags circuit;
 }
 
+-- the fragments of a fitting call's tape are the call's
+taped_frags : (p : TheProgram) (c : TheCall) (tape : List ℕ) → SendsFragments → is_within_limits p.interface ≡ true → interface_words_fit p.interface ≡ true → fits_of p.interface c ≡ true
+    → tape ≡ tape_of p.plan p.interface c → (circuit : ℕ) → tape_frags p circuit c.msg tape ≡ frags_on circuit p.plan p.interface c
+taped_frags p c tape law within words fits tape_is circuit =
+    ap (tape_frags p circuit c.msg) tape_is ∙ code_frags circuit p.plan p.interface (slice_get p.interface.messages c.msg) c law refl within words fits
+
+-- it is one of one fragment
+taped_short : (p : TheProgram) (c : TheCall) (tape : List ℕ) → fits_of p.interface c ≡ true → count p.plan p.interface c ≡ 1
+    → ((circuit : ℕ) → tape_frags p circuit c.msg tape ≡ frags_on circuit p.plan p.interface c) → IsShort p c.msg tape
+taped_short p c tape fits one frags = record {
+  known = known_call p.interface (slice_get p.interface.messages c.msg) c refl fits;
+  one = λ circuit. ap length (frags circuit) ∙ length_frags circuit p.plan p.interface c ∙ one;
+}
+
 -- a fitting call of one fragment as it is queued, by its tape
 pub queues_tape : (p : TheProgram) (c : TheCall) (tape : Vec ℕ) (call : QueuedCall) → SendsFragments → is_within_limits p.interface ≡ true → interface_words_fit p.interface ≡ true
     → fits_of p.interface c ≡ true → count p.plan p.interface c ≡ 1 → call.msg.0 ≡ c.msg → call.body ≡ Tape tape → tape.items ≡ tape_of p.plan p.interface c
     → Queues p c call
 queues_tape p c tape call law within words fits one msg body tape_is =
-    let frags : (circuit : ℕ) → tape_frags p circuit c.msg tape.items ≡ frags_on circuit p.plan p.interface c
-    = λ circuit. ap (tape_frags p circuit c.msg) tape_is
-    ∙ code_frags circuit p.plan p.interface (slice_get p.interface.messages c.msg) c law refl within words fits in
-    let is : IsBody p c.msg (Tape tape)
-    = record {
-      known = known_call p.interface (slice_get p.interface.messages c.msg) c refl fits;
-      one = λ circuit. ap length (frags circuit) ∙ length_frags circuit p.plan p.interface c ∙ one;
-    } in
-    queues_body p c call (Tape tape) msg body is frags
+    let frags = taped_frags p c tape.items law within words fits tape_is in
+    queues_body p c call (Tape tape) msg body (taped_short p c tape.items fits one frags) frags
+
+-- one by its number
+pub queues_number : (p : TheProgram) (msg n : ℕ) (call : QueuedCall) → SendsFragments → is_within_limits p.interface ≡ true → interface_words_fit p.interface ≡ true
+    → is_plain_message (slice_get p.interface.messages msg) ≡ true → fits_of p.interface (record { msg = msg; args = one_number n }) ≡ true → call.msg.0 ≡ msg → call.body ≡ Number n
+    → Queues p (record { msg = msg; args = one_number n }) call
+queues_number p msg n call law within words plain fits msg_is body =
+    let c : TheCall = record { msg = msg; args = one_number n } in
+    let of : OfNumber p.plan p.interface c = of_number p.plan p.interface c plain fits in
+    let same : n ≡ of.number_is = one_same n of.number_is of.args in
+    let tape : n ∷ [] ≡ tape_of p.plan p.interface c = ap (λ (k : ℕ). k ∷ []) same ∙ sym of.tape in
+    let frags = taped_frags p c (n ∷ []) law within words fits tape in
+    queues_body p c call (Number n) msg_is body (taped_short p c (n ∷ []) fits (short_number p.plan p.interface c plain fits) frags) frags
+  where
+    one_same : (n m : ℕ) → one_number n ≡ one_number m → n ≡ m
+    one_same n m e = cc
 
 -- one by its payload
 pub queues_payload : (p : TheProgram) (c : TheCall) (payload : Vec ℕ) (call : QueuedCall) → call.msg.0 ≡ c.msg → call.body ≡ Payload payload
@@ -170,6 +198,20 @@ queues_payload p c payload call msg body payload_is =
     queues_body p c call (Payload payload) msg body tt
     (λ circuit. ap (payload_frags circuit c.msg) payload_is
     ∙ ap (λ (n : ℕ). map (frag_on circuit c.msg (payload_of p.plan p.interface c)) (range_with_len 0 (count_for n))) long)
+
+-- ---- a call sent as another message, whose arguments have the same types
+
+pub same_tape : (plan : PlanNo) (i : TheInterface) (c : TheCall) (msg : ℕ) → SameTypes i c.msg msg → tape_of plan i c ≡ tape_of plan i (sent_as msg c)
+same_tape plan i c msg e = ap (λ (ts : List TheArgType). flat_map tape_of_argument (arranged kind plan (zip ts c.args))) e
+
+same_leaves : (plan : PlanNo) (i : TheInterface) (c : TheCall) (msg : ℕ) → SameTypes i c.msg msg → leaves plan i c ≡ leaves plan i (sent_as msg c)
+same_leaves plan i c msg e = ap (λ (ts : List TheArgType). arguments_onto false (arranged kind plan (zip ts c.args)) []) e
+
+pub same_payload : (plan : PlanNo) (i : TheInterface) (c : TheCall) (msg : ℕ) → SameTypes i c.msg msg → payload_of plan i c ≡ payload_of plan i (sent_as msg c)
+same_payload plan i c msg e = ap payload_bytes (same_leaves plan i c msg e)
+
+pub same_count : (plan : PlanNo) (i : TheInterface) (c : TheCall) (msg : ℕ) → SameTypes i c.msg msg → count plan i c ≡ count plan i (sent_as msg c)
+same_count plan i c msg e = ap (λ (ls : List Leaf). count_for (size ls)) (same_leaves plan i c msg e)
 
 -- ---- whether there is any
 

@@ -1,6 +1,6 @@
 -- What each event comes to at one end: by cases on the answer, exactly. A side that fragments are put to or taken from is
 -- seen by its own relation alone; it goes from p to q.
-use Rattle.std.specs.Prelude.{◌≡◌, ◌≢◌, ℕ, ◌+◌, true, false, List, [], ◌∷◌, ◌++◌, length, slice_get, Option, Some, None, IsSome, Result, Ok, Err}
+use Rattle.std.specs.Prelude.{◌≡◌, ◌≢◌, ℕ, ◌+◌, Bool, true, false, List, [], ◌∷◌, ◌++◌, length, slice_get, Option, Some, None, IsSome, Result, Ok, Err}
 use Rattle.fl_base.specs.declared.fragment.Frag.{Frag}
 use Rattle.fl_base.specs.declared.identity.Circuit.{Circuit}
 use Rattle.fl_interface.specs.Interface.{TheInterface}
@@ -52,15 +52,19 @@ Readies s (Err fault) = ⊥
 
 -- ---- a call is made
 
+-- the circuit on which a call of a message may be made, or why it may not, by whether it fits
+abbrev pub AdmitsBy : TheEnd → ℕ → Bool → Result Circuit EndFault → Type 0
+AdmitsBy s msg fits (Ok circuit) = (fits ≡ true) × (s.circuit ≡ Some circuit.0) × (s.failed ≡ false) × (s.outgoing.unwritten ≡ [])
+AdmitsBy s msg fits (Err UnknownMessage) = slice_get (interface_in s).messages msg ≡ None
+AdmitsBy s msg fits (Err Misfit) = IsMessage (interface_in s) msg × (fits ≡ false)
+AdmitsBy s msg fits (Err NotBound) = (fits ≡ true) × IsUnbound s
+AdmitsBy s msg fits (Err Failed) = (fits ≡ true) × HasFailed s
+AdmitsBy s msg fits (Err Busy) = (fits ≡ true) × IsReady s × (s.outgoing.unwritten ≢ [])
+AdmitsBy s msg fits (Err fault) = ⊥
+
 -- the circuit on which a call may be made, or why it may not
 abbrev pub Admits : TheEnd → TheCall → Result Circuit EndFault → Type 0
-Admits s c (Ok circuit) = (fits_of (interface_in s) c ≡ true) × (s.circuit ≡ Some circuit.0) × (s.failed ≡ false) × (s.outgoing.unwritten ≡ [])
-Admits s c (Err UnknownMessage) = slice_get (interface_in s).messages c.msg ≡ None
-Admits s c (Err Misfit) = IsMessage (interface_in s) c.msg × (fits_of (interface_in s) c ≡ false)
-Admits s c (Err NotBound) = (fits_of (interface_in s) c ≡ true) × IsUnbound s
-Admits s c (Err Failed) = (fits_of (interface_in s) c ≡ true) × HasFailed s
-Admits s c (Err Busy) = (fits_of (interface_in s) c ≡ true) × IsReady s × (s.outgoing.unwritten ≢ [])
-Admits s c (Err fault) = ⊥
+Admits s c answer = AdmitsBy s c.msg (fits_of (interface_in s) c) answer
 
 -- a call is accepted with all its fragments, or refused: then the end is as it was
 abbrev pub Calls : TheEnd → TheCall → Result (Unit {0}) EndFault → TheEnd → Type 0

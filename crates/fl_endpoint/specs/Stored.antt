@@ -4,8 +4,9 @@ use Rattle.std.specs.Prelude.{◌≡◌, ℕ, ◌+◌, ◌≤◌, true, false, I
 use Rattle.std.specs.Global.{Vec}
 use Rattle.fl_base.specs.declared.fragment.Frag.{Frag}
 use Rattle.fl_base.specs.Control.{is_ack_only, bare}
-use Rattle.fl_interface.specs.Interface.{TheMessage}
+use Rattle.fl_interface.specs.Interface.{TheMessage, TheInterface}
 use Rattle.fl_value_data.specs.Value.{TheCall}
+use Rattle.fl_value_data.specs.Fits.{fits_of}
 use Rattle.fl_value_data.specs.declared.value.PlanNo.{PlanNo}
 use Rattle.fl_wire.specs.Payload.{frags_on}
 use Rattle.fl_stub.specs.declared.op.Column.TheVariants.{Send}
@@ -16,8 +17,9 @@ use Rattle.fl_compile.specs.Codes.{compiled_code}
 use Rattle.fl_compile.specs.Programs.{TheProgram}
 use Rattle.fl_machine.specs.Sending.{frags_holding}
 use Rattle.fl_endpoint.specs.View.{TheOutgoing}
+use Rattle.fl_endpoint.specs.Events.{SameTypes}
 use Rattle.fl_endpoint.specs.declared.outgoing.CallBody.{CallBody}
-use Rattle.fl_endpoint.specs.declared.outgoing.CallBody.TheVariants.{Tape, Payload}
+use Rattle.fl_endpoint.specs.declared.outgoing.CallBody.TheVariants.{Tape, Payload, Number}
 use Rattle.fl_endpoint.specs.declared.outgoing.QueuedCall.{QueuedCall}
 use Rattle.fl_endpoint.specs.declared.outgoing.SendingCall.{SendingCall}
 use Rattle.fl_endpoint.specs.declared.outgoing.Outgoing.{Outgoing}
@@ -39,10 +41,11 @@ payload_frags circuit msg bytes = frags_holding true msg circuit bytes
 abbrev pub tape_frags : TheProgram → ℕ → ℕ → List ℕ → List Frag
 tape_frags program circuit msg tape = payload_frags circuit msg (bytes_given (block_of (code_of program msg).ops) tape)
 
--- those of a message of which its tape, or its payload, is kept
+-- those of a message of which its tape, its payload, or its tape's one number is kept
 abbrev pub body_frags : TheProgram → ℕ → ℕ → CallBody → List Frag
 body_frags program circuit msg (Tape tape) = tape_frags program circuit msg tape.items
 body_frags program circuit msg (Payload payload) = payload_frags circuit msg payload.items
+body_frags program circuit msg (Number number) = tape_frags program circuit msg (number ∷ [])
 
 -- those of a call that is to be sent
 abbrev pub queued_frags : TheProgram → ℕ → QueuedCall → List Frag
@@ -88,10 +91,11 @@ pub record IsShort (program : TheProgram) (msg : ℕ) (tape : List ℕ) : Type 0
   pub known : IsSome (slice_get program.interface.messages msg)
   pub one : (circuit : ℕ) → length (tape_frags program circuit msg tape) ≡ 1
 
--- a tape is kept of a call of one fragment alone
+-- a tape, or its number, is kept of a call of one fragment alone
 abbrev pub IsBody : TheProgram → ℕ → CallBody → Type 0
 IsBody program msg (Tape tape) = IsShort program msg tape.items
 IsBody program msg (Payload payload) = Unit {0}
+IsBody program msg (Number number) = IsShort program msg (number ∷ [])
 
 -- what is kept of a call that waits is so, and of each of these
 abbrev pub IsQueued : TheProgram → QueuedCall → Type 0
@@ -100,6 +104,16 @@ IsQueued program call = IsBody program call.msg.0 call.body
 abbrev pub AreQueued : TheProgram → List QueuedCall → Type 0
 AreQueued program [] = Unit {0}
 AreQueued program (call ∷ calls) = IsQueued program call × AreQueued program calls
+
+-- a call's arguments under a message
+abbrev pub sent_as : ℕ → TheCall → TheCall
+sent_as msg c = record { msg = msg; args = c.args }
+
+-- a fitting call, which may be sent as this message too: the arguments' types are the same
+pub record SendsAs (i : TheInterface) (c : TheCall) (msg : ℕ) : Type 0 where
+  pub fits : fits_of i c ≡ true
+  pub fits_so : fits_of i (sent_as msg c) ≡ true
+  pub types : SameTypes i c.msg msg
 
 -- the call, as it is queued
 pub record Queues (program : TheProgram) (c : TheCall) (call : QueuedCall) : Type 0 where

@@ -1,6 +1,6 @@
 //! What a write and a receive come to.
 
-use fl_value_data::Call;
+use fl_compact_calls::CompactCall;
 
 /// What a write came to.
 #[derive(Clone, Copy, Debug, PartialEq, Eq)]
@@ -17,7 +17,7 @@ pub enum WriteAnswer {
 #[derive(Debug, Drop)]
 pub enum ReceiveAnswer {
     /// The fragment taken was the last of this call, which is handled.
-    Handle(Call),
+    Handle(CompactCall),
     /// The fragment taken goes on with a call.
     Part,
     /// The fragment taken only acknowledged.

@@ -10,7 +10,7 @@ ghost use Rattle.fl_endpoint.specs.Lent.{IsPlaceOf, AddsPlace, taking, TakesInAt
 ghost use Rattle.fl_endpoint.specs.Stored.{IsOwn};
 ghost use Rattle.fl_endpoint.specs.Inside.{circuit_of};
 ghost use Rattle.fl_endpoint.specs.View.{interface_in, fresh, bound, is_circuit, is_busy, rule_at, has_rules, holds_back};
-ghost use Rattle.fl_endpoint.specs.Events.{Readies, Admits, Calls, Writes, ShowsNext, Handles, SetsRule, Exchanges};
+ghost use Rattle.fl_endpoint.specs.Events.{Readies, AdmitsBy, Admits, Calls, Writes, ShowsNext, Handles, SetsRule, Exchanges};
 
 use crate::answer::{ReceiveAnswer, WriteAnswer};
 use crate::fault::EndFault;
@@ -18,6 +18,7 @@ use crate::incoming::{most_fragments, reply_by_rule};
 use crate::outgoing::{MOST_WAITING, Outgoing, QueuedCall};
 use crate::rules::{ReplyRules, message};
 use fl_base::{Circuit, Frag, MsgNo};
+use fl_compact_calls::CompactCall;
 use fl_compile::Program;
 use fl_interface::same_args;
 use fl_link::{PutFault, PutSide, Sight, TakeSide};
@@ -235,15 +236,15 @@ impl End {
         self.outgoing.next()
     }
 
-    // Why a call may not be made, before memory is asked for; else the circuit.
-    fn admit(&self, call: &Call) -> Result<Circuit, EndFault>
-        ensures admits { Admits self.now (call_of call.now) result }
+    // Why a call of a message may not be made, before memory is asked for, by whether it fits; else the circuit.
+    fn admit_by(&self, msg: MsgNo, fits: bool) -> Result<Circuit, EndFault>
+        ensures admits { AdmitsBy self.now msg.0 fits result }
     {
         let interface = self.program.interface();
-        if usize::from(call.msg.0) >= interface.messages.len() {
+        if usize::from(msg.0) >= interface.messages.len() {
             return Err(EndFault::UnknownMessage);
         }
-        if !fits(call, interface) {
+        if !fits {
             return Err(EndFault::Misfit);
         }
         let circuit = match self.ready() {
@@ -254,6 +255,21 @@ impl End {
             return Err(EndFault::Busy);
         }
         Ok(circuit)
+    }
+
+    // Why a call may not be made, before memory is asked for; else the circuit.
+    fn admit(&self, call: &Call) -> Result<Circuit, EndFault>
+        ensures admits { Admits self.now (call_of call.now) result }
+    {
+        self.admit_by(call.msg, fits(call, self.program.interface()))
+    }
+
+    // The same of a call in little memory.
+    #[inline(always)]
+    fn admit_compact(&self, call: &CompactCall) -> Result<Circuit, EndFault>
+        ensures admits { Admits self.now (call_of call.now) result }
+    {
+        self.admit_by(call.msg(), call.fits(self.program.interface()))
     }
 
     /// Makes a call: it is accepted, and the end is busy until its last fragment is written. The numbers of the arguments of a
@@ -273,7 +289,30 @@ impl End {
             Ok(circuit) => circuit,
             Err(fault) => return Err(fault),
         };
-        let Ok(queued) = QueuedCall::of(self.alloc, spare, &self.program, call) else {
+        let Ok(queued) = QueuedCall::of(self.alloc, spare, &self.program, call, call.msg) else {
+            return Err(EndFault::Memory);
+        };
+        if let Some(tape) = self.outgoing.begin(&self.program, circuit, queued) {
+            *spare = tape;
+        }
+        Ok(())
+    }
+
+    /// As [`End::call`], for a call in little memory. One whose tape is its one number takes no memory, and leaves `spare` alone.
+    ///
+    /// # Errors
+    /// Those of [`End::call`], in the same order. The end is as it was then.
+    #[inline(always)]
+    pub fn call_compact(&mut self, call: &CompactCall, spare: &mut Vec<u64>) -> Result<(), EndFault>
+        ensures calls { Calls self.old (call_of call.now) result self.new }
+        ensures program { self.new.program ≡ self.old.program }
+    {
+        let circuit = match self.admit_compact(call) {
+            Ok(circuit) => circuit,
+            Err(fault) => return Err(fault),
+        };
+        let Ok(queued) = QueuedCall::of_compact(self.alloc, spare, &self.program, call, call.msg())
+        else {
             return Err(EndFault::Memory);
         };
         if let Some(tape) = self.outgoing.begin(&self.program, circuit, queued) {
@@ -330,14 +369,17 @@ impl End {
 
     // As `handle`. Out of line, so that a call to which there is no reply has nothing of it.
     #[inline(never)]
-    fn handle_with_reply(&mut self, circuit: Circuit, call: Call) -> Result<ReceiveAnswer, EndFault>
+    fn handle_with_reply(
+        &mut self,
+        circuit: Circuit,
+        call: CompactCall,
+    ) -> Result<ReceiveAnswer, EndFault>
         requires bound { self.old.circuit ≡ Some circuit.0 }
         requires takes { holds_back self.old ≡ false }
         requires fits { fits_of (interface_in self.old) (call_of call) ≡ true }
         ensures handles { Handles self.old (call_of call) result self.new }
     {
-        let mut call = call;
-        match reply_by_rule(self.alloc, &self.program, &self.rules, &mut call) {
+        match reply_by_rule(self.alloc, &self.program, &self.rules, &call) {
             Err(_) => Err(EndFault::Memory),
             Ok(reply) => {
                 let Ok(()) = self.outgoing.accept(&self.program, circuit, reply) else {
@@ -350,13 +392,13 @@ impl End {
 
     // A call that is whole is handled, and the reply to it by rule accepted, if there is one.
     #[inline(always)]
-    fn handle(&mut self, circuit: Circuit, call: Call) -> Result<ReceiveAnswer, EndFault>
+    fn handle(&mut self, circuit: Circuit, call: CompactCall) -> Result<ReceiveAnswer, EndFault>
         requires bound { self.old.circuit ≡ Some circuit.0 }
         requires takes { holds_back self.old ≡ false }
         requires fits { fits_of (interface_in self.old) (call_of call) ≡ true }
         ensures handles { Handles self.old (call_of call) result self.new }
     {
-        match self.rules.reply_to(call.msg) {
+        match self.rules.reply_to(call.msg()) {
             Some(_) => self.handle_with_reply(circuit, call),
             None => {
                 let handled = ReceiveAnswer::Handle(call);

@@ -14,9 +14,9 @@ ghost use Rattle.fl_endpoint.specs.Stored.{QueuesReply};
 use crate::outgoing::QueuedCall;
 use crate::rules::ReplyRules;
 use fl_base::MsgNo;
+use fl_compact_calls::CompactCall;
 use fl_compile::Program;
 use fl_layout::{Plans, fragment_count};
-use fl_value_data::Call;
 use std::alloc::{AllocError, Global};
 
 // How many fragments the longest call has.
@@ -35,22 +35,17 @@ pub(crate) fn reply_by_rule(
     alloc: Global,
     program: &Program,
     rules: &ReplyRules,
-    call: &mut Call,
+    call: &CompactCall,
 ) -> Result<Option<QueuedCall>, AllocError>
     requires rules { AreRules (program_of program.now).interface (rules_of rules.now.replies.items) }
-    requires fits { fits_of (program_of program.now).interface (call_of call.old) ≡ true }
-    ensures same { call_of call.new ≡ call_of call.old }
+    requires fits { fits_of (program_of program.now).interface (call_of call.now) ≡ true }
     ensures reply { IfOk result (λ reply.
-        QueuesReply (program_of program.now) (reply_to (rules_of rules.now.replies.items) (call_of call.old)) reply) }
+        QueuesReply (program_of program.now) (reply_to (rules_of rules.now.replies.items) (call_of call.now)) reply) }
 {
-    let msg = call.msg;
-    let Some(reply) = rules.reply_to(msg) else {
+    let Some(reply) = rules.reply_to(call.msg()) else {
         return Ok(None);
     };
-    call.msg = reply;
-    let queued = QueuedCall::of(alloc, &mut Vec::new(alloc), program, call);
-    call.msg = msg;
-    match queued {
+    match QueuedCall::of_compact(alloc, &mut Vec::new(alloc), program, call, reply) {
         Ok(queued) => Ok(Some(queued)),
         Err(fault) => Err(fault),
     }

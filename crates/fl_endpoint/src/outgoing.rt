@@ -5,14 +5,16 @@ ghost use Rattle.std.specs.Option.{option_map};
 ghost use Rattle.fl_base.specs.declared.fragment.Frag.{Frag};
 ghost use Rattle.fl_value_data.specs.Value.{call_of};
 ghost use Rattle.fl_value_data.specs.Fits.{fits_of};
+ghost use Rattle.fl_compact_calls.specs.Held.{one_number};
 ghost use Rattle.fl_layout.specs.Places.{count};
 ghost use Rattle.fl_compile.specs.Programs.{TheProgram, program_of};
 ghost use Rattle.fl_endpoint.specs.View.{nothing_to_send, is_busy, queued, queued_if, goes_on, wrote};
 ghost use Rattle.fl_wire.specs.Payload.{frag_on};
 ghost use Rattle.fl_endpoint.specs.Stored.{tape_frags, payload_frags, queued_frags, sending_frags, frags_behind, count_in, outgoing_of};
-ghost use Rattle.fl_endpoint.specs.Stored.{IsShort, IsQueued, AreQueued, Queues, IsSending, IsInTransmission, IsOutgoing};
+ghost use Rattle.fl_endpoint.specs.Stored.{sent_as, SendsAs, IsShort, IsQueued, AreQueued, Queues, IsSending, IsInTransmission, IsOutgoing};
 
 use fl_base::{Circuit, Frag, MsgNo, control};
+use fl_compact_calls::{CompactCall, NumberCall, SeenCall, has_plain_number};
 use fl_compile::Program;
 use fl_compile_payload::payload_by;
 use fl_layout::fragment_count;
@@ -33,6 +35,8 @@ pub(crate) enum CallBody {
     Tape(Vec<u64>),
     /// Of a longer call its payload.
     Payload(Vec<u8>),
+    /// Of a call whose tape is one number that number.
+    Number(u64),
 }
 
 /// A call that is to be sent.
@@ -74,58 +78,125 @@ fn fragment_on(payload: &[u8], msg: MsgNo, circuit: Circuit, k: usize) -> Frag
 }
 
 impl QueuedCall {
-    // A fitting call of one fragment as it is queued: its tape, in memory that was used before.
+    // A call of one fragment as it is queued to be sent as this message: its tape, in memory that was used before.
     #[inline(always)]
-    fn of_tape(tape: Vec<u64>, program: &Program, call: &Call) -> Result<QueuedCall, AllocError>
-        requires fits { fits_of (program_of program.now).interface (call_of call.now) ≡ true }
+    fn of_tape(
+        tape: Vec<u64>,
+        program: &Program,
+        call: &Call,
+        msg: MsgNo,
+    ) -> Result<QueuedCall, AllocError>
+        requires sends { SendsAs (program_of program.now).interface (call_of call.now) msg.0 }
         requires one { count (program_of program.now).plan (program_of program.now).interface (call_of call.now) ≡ 1 }
-        ensures queues { IfOk result (λ queued. Queues (program_of program.now) (call_of call.now) queued) }
+        ensures queues { IfOk result (λ queued. Queues (program_of program.now) (sent_as msg.0 (call_of call.now)) queued) }
     {
         law_sends_fragments();
         let mut tape = tape;
         flatten_into(&mut tape, call, program.interface(), program.plan())?;
         Ok(QueuedCall {
             body: CallBody::Tape(tape),
-            msg: call.msg,
+            msg,
         })
     }
 
-    // A fitting call as it is queued: its payload, which its message's send code makes. Out of line, so that a call of one
-    // fragment has nothing of it.
+    // A call as it is queued to be sent as this message: its payload, which its own message's send code makes. Out of line, so that
+    // a call of one fragment has nothing of it.
     #[inline(never)]
     fn of_payload(
         alloc: Global,
         program: &Program,
         call: &Call,
+        msg: MsgNo,
         room: usize,
     ) -> Result<QueuedCall, AllocError>
-        requires { fits_of (program_of program.now).interface (call_of call.now) ≡ true }
-        ensures queues { IfOk result (λ queued. Queues (program_of program.now) (call_of call.now) queued) }
+        requires sends { SendsAs (program_of program.now).interface (call_of call.now) msg.0 }
+        ensures queues { IfOk result (λ queued. Queues (program_of program.now) (sent_as msg.0 (call_of call.now)) queued) }
     {
         let payload = payload_by(alloc, program, call, room)?;
         Ok(QueuedCall {
             body: CallBody::Payload(payload),
-            msg: call.msg,
+            msg,
         })
     }
 
-    // A fitting call as it is queued. Of a call of one fragment the tape is made in the spare memory, which it takes.
+    // A call as it is queued to be sent as this message. Of a call of one fragment the tape is made in the spare memory, which it
+    // takes.
     #[inline(always)]
     pub(crate) fn of(
         alloc: Global,
         spare: &mut Vec<u64>,
         program: &Program,
         call: &Call,
+        msg: MsgNo,
     ) -> Result<QueuedCall, AllocError>
-        requires { fits_of (program_of program.now).interface (call_of call.now) ≡ true }
-        ensures queues { IfOk result (λ queued. Queues (program_of program.now) (call_of call.now) queued) }
+        requires sends { SendsAs (program_of program.now).interface (call_of call.now) msg.0 }
+        ensures queues { IfOk result (λ queued. Queues (program_of program.now) (sent_as msg.0 (call_of call.now)) queued) }
     {
         let size = program.plans().size_of(call);
         if fragment_count(size) == 1 {
             let tape = mem::replace(spare, Vec::new(alloc));
-            return QueuedCall::of_tape(tape, program, call);
+            return QueuedCall::of_tape(tape, program, call, msg);
         }
-        QueuedCall::of_payload(alloc, program, call, size)
+        QueuedCall::of_payload(alloc, program, call, msg, size)
+    }
+
+    // A fitting call of one number as it is queued, by a list made for it. Out of line, so that a call whose tape is its number has
+    // nothing of it.
+    #[inline(never)]
+    fn of_listed(
+        alloc: Global,
+        spare: &mut Vec<u64>,
+        program: &Program,
+        msg: MsgNo,
+        number: u64,
+    ) -> Result<QueuedCall, AllocError>
+        requires fits { fits_of (program_of program.now).interface (record { msg = msg.0; args = one_number number }) ≡ true }
+        ensures queues { IfOk result (λ queued. Queues (program_of program.now) (record { msg = msg.0; args = one_number number }) queued) }
+    {
+        let mut call = NumberCall::new(alloc)?;
+        QueuedCall::of(alloc, spare, program, call.set(msg, number), msg)
+    }
+
+    // A fitting call of one number as it is queued: the number itself where that is all of its tape, and then without memory.
+    #[inline(always)]
+    fn of_number(
+        alloc: Global,
+        spare: &mut Vec<u64>,
+        program: &Program,
+        msg: MsgNo,
+        number: u64,
+    ) -> Result<QueuedCall, AllocError>
+        requires fits { fits_of (program_of program.now).interface (record { msg = msg.0; args = one_number number }) ≡ true }
+        ensures queues { IfOk result (λ queued. Queues (program_of program.now) (record { msg = msg.0; args = one_number number }) queued) }
+    {
+        law_sends_fragments();
+        if !has_plain_number(program.interface(), msg) {
+            return QueuedCall::of_listed(alloc, spare, program, msg, number);
+        }
+        Ok(QueuedCall {
+            body: CallBody::Number(number),
+            msg,
+        })
+    }
+
+    // As `of`, for a call in little memory.
+    #[inline(always)]
+    pub(crate) fn of_compact(
+        alloc: Global,
+        spare: &mut Vec<u64>,
+        program: &Program,
+        call: &CompactCall,
+        msg: MsgNo,
+    ) -> Result<QueuedCall, AllocError>
+        requires sends { SendsAs (program_of program.now).interface (call_of call.now) msg.0 }
+        ensures queues { IfOk result (λ queued. Queues (program_of program.now) (sent_as msg.0 (call_of call.now)) queued) }
+    {
+        match call.seen() {
+            SeenCall::Number(_, number) => {
+                QueuedCall::of_number(alloc, spare, program, msg, number)
+            }
+            SeenCall::Other(call) => QueuedCall::of(alloc, spare, program, call, msg),
+        }
     }
 }
 
@@ -272,6 +343,10 @@ impl Outgoing {
             }
             CallBody::Payload(payload) => {
                 self.start_payload(circuit, msg, payload);
+                None
+            }
+            CallBody::Number(number) => {
+                self.start_one(program, circuit, msg, &[number]);
                 None
             }
         }

@@ -12,6 +12,7 @@ ghost use Rattle.fl_history_sides.specs.Noted.{front_of};
 use fl_base::Frag;
 use fl_history_rings::{RingSide, RingsCore};
 use fl_link::{PutFault, PutSide, Sight, TakeSide, Told};
+use std::alloc::Global;
 use std::marker::Model;
 
 /// A core with all its sides, one of which is lent: it puts and takes by that one.
@@ -31,6 +32,16 @@ impl Model for LentSide {
     ghost view = { λ s. record { core = s.core; sides = s.sides.items; at = s.at } };
 
     ghost invariant = { λ s. IsLent s.core s.sides.items s.at };
+}
+
+// A list's items are moved into memory that is asked for now. Where there is none, they stay where they are.
+fn in_own_memory<T: Drop>(alloc: Global, list: &mut Vec<T>)
+    ensures same { list.new.items ≡ list.old.items }
+{
+    let mut own = Vec::new(alloc);
+    if own.append(list).is_ok() {
+        *list = own;
+    }
 }
 
 // What a look answers that finds this fragment, or none.
@@ -121,6 +132,14 @@ impl LentSide {
         ensures at { result ≡ self.now.at }
     {
         self.at
+    }
+
+    /// The sides are moved into memory that is asked for now, so into that of the thread on which this is called. Where there is none, they stay where they
+    /// are.
+    pub fn take_own_memory(&mut self, alloc: Global)
+        ensures same { self.new ≡ self.old }
+    {
+        in_own_memory(alloc, &mut self.sides);
     }
 
     /// How many sides there are.

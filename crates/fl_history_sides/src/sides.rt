@@ -59,6 +59,16 @@ impl HistorySides {
         Ok(HistorySides { lent: Some(lent) })
     }
 
+    /// The sides are moved into memory that is asked for now, so into that of the thread on which this is called. Where there is none, they stay where they
+    /// are.
+    pub fn take_own_memory(&mut self, alloc: Global)
+        ensures same { self.new ≡ self.old }
+    {
+        if let Some(lent) = &mut self.lent {
+            lent.take_own_memory(alloc);
+        }
+    }
+
     /// The core with its sides, where it has any.
     pub fn into_lent(self) -> Option<LentSide>
         ensures lent { result ≡ self.lent }

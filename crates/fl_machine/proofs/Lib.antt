@@ -16,3 +16,5 @@ pub mod Emits
 pub mod Laid
 pub mod Joined
 pub mod Parts
+pub mod NumberCalls
+pub mod Alone

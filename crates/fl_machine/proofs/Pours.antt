@@ -95,7 +95,7 @@ holds_none = record { each = λ i small. get_or-replicate 56 i 0 0 small ∙ sym
 pub gives_all : (ops : List Op) (s : TheEndLocation) → IsLocation ops s → IsLocation ops (record s { value = 0; width = 0 })
 gives_all ops s location = record { depth = location.depth; place = location.place; loops = location.loops; width = omega arith; value = lit< tt }
 
-length_bytes : (i k n : ℕ) → length (bytes_low_first i k n) ≡ k
+pub length_bytes : (i k n : ℕ) → length (bytes_low_first i k n) ≡ k
 length_bytes i zero n = refl
 length_bytes i (suc k) n = ap suc (length_bytes (suc i) k n)
 
@@ -116,7 +116,7 @@ no_byte (suc j) width value small h =
     ap (λ (v : ℕ). v % 256) zero_quotient
 
 -- the bytes of a number that has no more than so many, in eight
-same_bytes : (width value j : ℕ) → width ≤ 8 → value < 256 ^ width → j < 8 → get_or (number_bytes 8 value) j 0 ≡ get_or (number_bytes width value) j 0
+pub same_bytes : (width value j : ℕ) → width ≤ 8 → value < 256 ^ width → j < 8 → get_or (number_bytes 8 value) j 0 ≡ get_or (number_bytes width value) j 0
 same_bytes width value j few small h = ⊎_elim
     (λ (inside : j < width). byte_there 0 8 value j h ∙ sym (byte_there 0 width value j inside))
     (λ (past : width ≤ j).

@@ -7,13 +7,14 @@ ghost use Rattle.fl_machine.specs.Reassembling.{TheReassembly, Takes, ChangesPla
 ghost use Rattle.fl_machine.specs.Places.{ArePlaces, IsBetween, IsInside, reassemblies};
 ghost use Rattle.fl_machine.specs.Rooms.{IsThere, rooms_of};
 
-use crate::reassembly::{Assembly, TakeFault, Taken, has_few_args, tell};
+use crate::reassembly::{Assembly, TakeFault, Taken, has_few_args, tell, tell_alone, tell_number};
 use crate::recv::begin_straight;
 use crate::rooms::Rooms;
 use fl_base::Frag;
+use fl_compact_calls::NumberCall;
 use fl_compile::Program;
 use fl_compile_tape::ReadingRoom;
-use fl_value_data::Value;
+use fl_value_data::Call;
 use std::alloc::{AllocError, Global};
 use std::marker::Model;
 use std::mem;
@@ -28,8 +29,10 @@ pub(crate) struct ReassemblyPlaces {
     numbers: [u64; 56],
     // Where calls of several fragments are read.
     reading: ReadingRoom,
-    // The list of a call that was done with: the next call of one fragment stands in it.
-    spare: Vec<Value>,
+    // The memory of a call that was done with: the next call that isn't of one number stands in it.
+    spare: Option<Box<Call>>,
+    // For contracts: where a call of one number is made. It is there once there is a place.
+    number: Option<NumberCall>,
 }
 
 /// Calls that are put together again from their fragments, at many places: each has a program, and of its call under way the
@@ -55,6 +58,14 @@ impl Model for Reassemblies {
     ghost invariant = { AreReassemblies };
 }
 
+// Where a call of one number is made, is there.
+fn make_number(alloc: Global, number: &mut Option<NumberCall>) -> Result<(), AllocError> {
+    if number.is_none() {
+        *number = Some(NumberCall::new(alloc)?);
+    }
+    Ok(())
+}
+
 impl ReassemblyPlaces {
     // One place more.
     fn add(&mut self, program: Program, capacity: usize) -> Result<(), AllocError>
@@ -64,6 +75,7 @@ impl ReassemblyPlaces {
         ensures added { OnOk result (reassemblies self.new ≡ reassemblies self.old ++ new_reassembly program ∷ []) }
         ensures kept { OnErr result (reassemblies self.new ≡ reassemblies self.old) }
     {
+        make_number(self.alloc, &mut self.number)?;
         self.places.reserve(1)?;
         self.rooms.add(capacity)?;
         self.places.push_reserved(Assembly {
@@ -100,6 +112,7 @@ impl ReassemblyPlaces {
             &mut self.numbers,
             &mut self.rooms.block[start..end],
             &mut self.reading,
+            &mut self.spare,
             frag,
         )
     }
@@ -137,6 +150,9 @@ impl ReassemblyPlaces {
         ensures takes { ChangesPlace (reassemblies self.old) place (λ s t. Takes s frag.now result t) (reassemblies self.new) }
     {
         let program = &self.places[place].program;
+        if let Some(taken) = tell_alone(program, &mut self.number, frag) {
+            return Ok(taken);
+        }
         if !has_few_args(program, frag) {
             return self.take_begun(place, frag);
         }
@@ -144,7 +160,10 @@ impl ReassemblyPlaces {
         let Some(ended) = begin_straight(program, &mut numbers, frag) else {
             return self.take_begun(place, frag);
         };
-        let room = mem::replace(&mut self.spare, Vec::new(self.alloc));
+        if let Some(taken) = tell_number(program, &mut self.number, ended, &numbers, frag) {
+            return Ok(taken);
+        }
+        let room = mem::replace(&mut self.spare, None);
         tell(self.alloc, room, program, ended, &numbers, frag)
     }
 
@@ -187,7 +206,8 @@ impl Reassemblies {
                 rooms: Rooms::new(alloc),
                 numbers: [0; 56],
                 reading: ReadingRoom::new(alloc),
-                spare: Vec::new(alloc),
+                spare: None,
+                number: None,
             },
         }
     }
@@ -237,12 +257,12 @@ impl Reassemblies {
         self.stored.take(place, frag)
     }
 
-    /// Takes back the list of a call that was done with: the next call of one fragment stands in its memory. Its values are dropped then.
+    /// Takes back the memory of a call that was done with: the next call that isn't of one number stands in it. Its values are dropped then.
     #[inline(always)]
-    pub fn give_back(&mut self, values: Vec<Value>)
+    pub fn give_back(&mut self, call: Box<Call>)
         ensures same { self.new ≡ self.old }
     {
-        self.stored.spare = values;
+        self.stored.spare = Some(call);
     }
 
     /// Done with the call under way at a place: the next fragment there is to begin another.

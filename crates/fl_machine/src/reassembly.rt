@@ -1,6 +1,6 @@
 //! A program's calls that are put together again from their fragments, one after another.
 
-ghost use Rattle.std.specs.Prelude.{◌≡◌, ◌<◌, ◌≤◌, [], length, Option, IsSome, Some, None, IfOk};
+ghost use Rattle.std.specs.Prelude.{◌≡◌, ◌<◌, ◌≤◌, ◌++◌, ◌∷◌, [], length, Option, IsSome, Some, None, Ok, IfOk, IfSome};
 ghost use Rattle.fl_value_data.specs.Value.{TheCall, call_of};
 ghost use Rattle.fl_compile.specs.Programs.{program_of};
 ghost use Rattle.fl_compile_tape.specs.Frags.{HasFrags};
@@ -9,17 +9,19 @@ ghost use Rattle.fl_machine.specs.Receiving.{HoldsParts, StandsIn, AddsUpTo};
 ghost use Rattle.fl_machine.specs.Kept.{EndsCallIn};
 ghost use Rattle.fl_machine.specs.declared.recv.PartialCall.{PartialCall};
 ghost use Rattle.fl_machine.specs.Receiving.{After as after};
-ghost use Rattle.fl_machine.specs.Reassembling.{Takes, IsUnderWay, GoesOnFrom};
+ghost use Rattle.fl_machine.specs.Reassembling.{TheReassembly, AreWhole, Takes, IsUnderWay, GoesOnFrom};
 ghost use Rattle.fl_machine.specs.Reassembling.{new_reassembly, parts_under, reassembly_on};
 
 use crate::intake::Fed;
-use crate::recv::{PartialCall, TapedCall, begin, look_on, whole};
+use crate::recv::{PartialCall, TapedCall, begin, begin_alone, look_on, whole, whole_number};
 use fl_base::Frag;
+use fl_compact_calls::{CompactCall, NumberCall};
 use fl_compile::Program;
 use fl_compile_tape::{ReadingRoom, call_of_frags};
 use fl_value_data::{Call, Value};
 use fl_wire::WireFault;
 use std::alloc::{AllocError, Global};
+use std::mem;
 use thiserror::Error;
 
 /// What taking a fragment came to.
@@ -28,7 +30,7 @@ pub enum Taken {
     /// Its call goes on in the next fragment.
     Part,
     /// It is the last of this call.
-    Whole(Call),
+    Whole(CompactCall),
 }
 
 /// Why a fragment isn't taken.
@@ -70,11 +72,31 @@ pub(crate) fn has_few_args(program: &Program, frag: &Frag) -> bool {
     }
 }
 
-// The call of one fragment, whose numbers are these.
+// A call that was read, in memory that was used before.
 #[inline(always)]
+fn told(alloc: Global, room: Option<Box<Call>>, call: Call) -> Result<Taken, TakeFault>
+    ensures told { (s : TheReassembly) (f : Frag) → AreWhole s (s.parts ++ f ∷ []) (call_of call) → Takes s f result s }
+{
+    match CompactCall::keep_in(alloc, room, call) {
+        Ok(call) => Ok(Taken::Whole(call)),
+        Err(_) => Err(TakeFault::Memory),
+    }
+}
+
+// The list of a call that was done with.
+#[inline(always)]
+fn list_of(alloc: Global, room: &mut Option<Box<Call>>) -> Vec<Value> {
+    match room {
+        None => Vec::new(alloc),
+        Some(call) => mem::replace(&mut call.args, Vec::new(alloc)),
+    }
+}
+
+// The call of one fragment, whose numbers are these. Out of line, so that a call of one number has nothing of it.
+#[inline(never)]
 pub(crate) fn tell(
     alloc: Global,
-    room: Vec<Value>,
+    room: Option<Box<Call>>,
     program: &Program,
     ended: TapedCall,
     tape: &[u64],
@@ -85,10 +107,50 @@ pub(crate) fn tell(
     ensures takes { Takes (new_reassembly program.now) frag.now result (new_reassembly program.now) }
 {
     let _plan = program.plan();
-    match whole(alloc, room, program, ended, tape) {
-        Ok(call) => Ok(Taken::Whole(call)),
+    let mut room = room;
+    let list = list_of(alloc, &mut room);
+    match whole(alloc, list, program, ended, tape) {
+        Ok(call) => told(alloc, room, call),
         Err(_) => Err(TakeFault::Memory),
     }
+}
+
+// The call of one fragment, where its one number is its argument's value.
+#[inline(always)]
+pub(crate) fn tell_number(
+    program: &Program,
+    spare: &mut Option<NumberCall>,
+    ended: TapedCall,
+    tape: &[u64],
+    frag: &Frag,
+) -> Option<Taken>
+    requires stands { StandsIn (program_of program.now) tape.now (after ended) }
+    requires adds { AddsUpTo (program_of program.now) [] frag.now tape.now (after ended) }
+    ensures takes { IfSome result (λ taken. Takes (new_reassembly program.now) frag.now (Ok taken) (new_reassembly program.now)) }
+{
+    let _plan = program.plan();
+    let Some(spare) = spare else {
+        return None;
+    };
+    match whole_number(program, spare, ended, tape) {
+        Some(call) => Some(Taken::Whole(call)),
+        None => None,
+    }
+}
+
+// The call that a fragment is, where it is to begin one and is all of one of one number, which is its argument's value.
+#[inline(always)]
+pub(crate) fn tell_alone(
+    program: &Program,
+    spare: &mut Option<NumberCall>,
+    frag: &Frag,
+) -> Option<Taken>
+    ensures takes { IfSome result (λ taken. Takes (new_reassembly program.now) frag.now (Ok taken) (new_reassembly program.now)) }
+{
+    let Some((ended, number)) = begin_alone(program, frag) else {
+        return None;
+    };
+    tell_number(program, spare, ended, &[number], frag)
 }
 
 // Keeps a fragment behind which a call goes on, in a room that has those before it.
@@ -141,6 +203,7 @@ fn take_last(
     begun: &PartialCall,
     room: &mut [Frag],
     reading: &mut ReadingRoom,
+    spare: &mut Option<Box<Call>>,
     frag: &Frag,
 ) -> Result<Taken, TakeFault>
     requires under_way { IsUnderWay (program_of program.now) room.old (Some begun.now) }
@@ -154,7 +217,7 @@ fn take_last(
     let count = begun.fed();
     room[count] = frag.bare();
     match read(alloc, program, &room[..count + 1], reading) {
-        Ok(call) => Ok(Taken::Whole(call)),
+        Ok(call) => told(alloc, mem::replace(spare, None), call),
         Err(_) => Err(TakeFault::Memory),
     }
 }
@@ -167,6 +230,7 @@ fn take_begun(
     under: &mut Option<PartialCall>,
     numbers: &mut [u64; 56],
     room: &mut [Frag],
+    spare: &mut Option<Box<Call>>,
     frag: &Frag,
 ) -> Result<Taken, TakeFault>
     requires between { under.old ≡ None }
@@ -184,7 +248,7 @@ fn take_begun(
         }
         Ok(Fed::Whole) => tell(
             alloc,
-            Vec::new(alloc),
+            mem::replace(spare, None),
             program,
             begun.to_ended(),
             &*numbers,
@@ -204,6 +268,7 @@ fn take_under(
     numbers: &mut [u64; 56],
     room: &mut [Frag],
     reading: &mut ReadingRoom,
+    spare: &mut Option<Box<Call>>,
     frag: &Frag,
 ) -> Result<Taken, TakeFault>
     requires under_way { IsUnderWay (program_of program.now) room.old (Some begun.old) }
@@ -219,7 +284,7 @@ fn take_under(
         Ok(Fed::Part) => keep(program, begun, room, frag),
         Ok(Fed::Whole) => {
             *begun = before;
-            take_last(alloc, program, begun, room, reading, frag)
+            take_last(alloc, program, begun, room, reading, spare, frag)
         }
         Err(fault) => {
             *begun = before;
@@ -237,6 +302,7 @@ fn take_next(
     numbers: &mut [u64; 56],
     room: &mut [Frag],
     reading: &mut ReadingRoom,
+    spare: &mut Option<Box<Call>>,
     frag: &Frag,
 ) -> Result<Taken, TakeFault>
     requires some { IsSome under.old }
@@ -248,7 +314,7 @@ fn take_next(
     let Some(begun) = under else {
         unreachable!();
     };
-    take_under(alloc, program, begun, numbers, room, reading, frag)
+    take_under(alloc, program, begun, numbers, room, reading, spare, frag)
 }
 
 impl Assembly {
@@ -261,6 +327,7 @@ impl Assembly {
         numbers: &mut [u64; 56],
         room: &mut [Frag],
         reading: &mut ReadingRoom,
+        spare: &mut Option<Box<Call>>,
         frag: &Frag,
     ) -> Result<Taken, TakeFault>
         requires under_way { IsUnderWay (program_of self.old.program) room.old self.old.begun }
@@ -278,9 +345,18 @@ impl Assembly {
                 numbers,
                 room,
                 reading,
+                spare,
                 frag,
             ),
-            None => take_begun(alloc, &self.program, &mut self.begun, numbers, room, frag),
+            None => take_begun(
+                alloc,
+                &self.program,
+                &mut self.begun,
+                numbers,
+                room,
+                spare,
+                frag,
+            ),
         }
     }
 

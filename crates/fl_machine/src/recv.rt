@@ -16,8 +16,9 @@ ghost use Rattle.fl_machine.specs.Kept.{counting, IsKeptIn, GoesOn, Ends, IsFaul
 ghost use Rattle.fl_machine.specs.Receiving.{Inside as inside, After as after};
 
 use crate::intake::{Fed, RecvCursor};
-use crate::straight::take_straight;
+use crate::straight::{take_alone, take_straight};
 use fl_base::{FRAG_BYTES, Frag, MsgNo};
+use fl_compact_calls::{CompactCall, NumberCall, has_plain_number};
 use fl_compile::{Program, law_tells_faults};
 use fl_stub::ByteKind;
 use fl_value_data::{Call, Value, unflatten_in};
@@ -292,6 +293,28 @@ pub(crate) fn begin_straight(
     Some(TapedCall { msg, count })
 }
 
+// Takes a fragment where a call is to begin, if it is all of a call of one number, which code takes that takes nothing else.
+#[inline(always)]
+pub(crate) fn begin_alone(program: &Program, frag: &Frag) -> Option<(TapedCall, u64)>
+    ensures stands { IfSome result (λ r. StandsIn (program_of program.now) (r.1 ∷ []) (after r.0)) }
+    ensures adds { IfSome result (λ r. AddsUpTo (program_of program.now) [] frag.now (r.1 ∷ []) (after r.0)) }
+{
+    is_line(frag);
+    let interface = program.interface();
+    if let Some(_) = start_fault(interface, frag) {
+        return None;
+    }
+    let msg = frag.msg();
+    let Some(code) = program.receive_code(msg) else {
+        return None;
+    };
+    let Some(number) = take_alone(code.ops(), &frag.words) else {
+        return None;
+    };
+    let ended = TapedCall { msg, count: 1 };
+    Some((ended, number))
+}
+
 // Takes a fragment inside a call.
 #[inline(always)]
 pub(crate) fn go_on(
@@ -357,6 +380,28 @@ pub(crate) fn whole(
         Some(call) => Ok(call),
         None => unreachable!(),
     }
+}
+
+// The call of a whole tape, where its message has one argument alone, which is the number on the tape.
+#[inline(always)]
+pub(crate) fn whole_number(
+    program: &Program,
+    spare: &mut NumberCall,
+    ended: TapedCall,
+    tape: &[u64],
+) -> Option<CompactCall>
+    requires ended { StandsIn (program_of program.now) tape.now (after ended) }
+    ensures fits { IfSome result (λ call. fits_of (program_of program.now).interface (call_of call) ≡ true) }
+    ensures means { IfSome result (λ call. MeansWhole (program_of program.now) tape.now ended (call_of call)) }
+{
+    let _plan = program.plan();
+    if !has_plain_number(program.interface(), ended.msg) {
+        return None;
+    }
+    let Some(number) = tape.first() else {
+        return None;
+    };
+    Some(CompactCall::of_number(spare, ended.msg, *number))
 }
 
 // The numbers of a call that is whole.

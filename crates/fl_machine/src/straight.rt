@@ -2,9 +2,10 @@
 //! straight instructions one after another, and those of a loop over one number, whose place and count are kept
 //! in locals meanwhile.
 
-ghost use Rattle.std.specs.Prelude.{◌≡◌, ◌%◌, ◌+◌, ◌-◌, ◌<◌, ◌≤◌, ◌++◌, ◌^◌, ℕ, List, true, take, length};
+ghost use Rattle.std.specs.Prelude.{◌≡◌, ◌%◌, ◌+◌, ◌-◌, ◌<◌, ◌≤◌, ◌++◌, ◌∷◌, [], ◌^◌, ℕ, List, true, take, length};
 ghost use Rattle.std.specs.Prelude.{slice_set, IfSome, IfNone, IfOk, IfErr, IsTrue};
 ghost use Rattle.fl_stub.specs.declared.op.Column.TheVariants.{Receive as receive};
+ghost use Rattle.fl_stub.specs.declared.op.Op.TheVariants.{Read as read_op, Done as done_op};
 ghost use Rattle.fl_stub.specs.Structure.{IsCode};
 ghost use Rattle.fl_stub.specs.Frames.{block_of};
 ghost use Rattle.fl_stub.specs.Streams.{IsPayload, LeavesPayloads};
@@ -107,6 +108,47 @@ pub(crate) fn take_straight(ops: &[Op], places: &mut [u64; 8], words: &[u64; 7])
         place += 1;
     }
     None
+}
+
+// The only word that isn't 0, the first, if no other is.
+#[inline(always)]
+fn first_alone(words: &[u64; 7]) -> Option<u64>
+    ensures alone { IfSome result (λ number. words.now ≡ number ∷ 0 ∷ 0 ∷ 0 ∷ 0 ∷ 0 ∷ 0 ∷ []) }
+{
+    match *words {
+        [number, 0, 0, 0, 0, 0, 0] => Some(number),
+        _ => None,
+    }
+}
+
+// The width of the number that code takes, if it takes one and nothing else.
+#[inline(always)]
+fn width_alone(ops: &[Op]) -> Option<u32>
+    ensures alone { IfSome result (λ width. ops.now ≡ read_op width ∷ done_op ∷ []) }
+{
+    match ops {
+        [Op::Read(width), Op::Done] => Some(*width),
+        _ => None,
+    }
+}
+
+/// The words of a call's only fragment as one number, where code takes one and nothing else. `None` for other code, and where the
+/// words aren't all of a call. Takes no memory.
+#[inline(always)]
+pub(crate) fn take_alone(ops: &[Op], words: &[u64; 7]) -> Option<u64>
+    requires code { IsCode receive ops.now (block_of ops.now) }
+    ensures whole { IfSome result (λ number. IsPayload (block_of ops.now) (words_bytes words.now) (number ∷ [])) }
+{
+    let Some(width) = width_alone(ops) else {
+        return None;
+    };
+    let Some(number) = first_alone(words) else {
+        return None;
+    };
+    if number > greatest(width) {
+        return None;
+    }
+    Some(number)
 }
 
 // What a straight instruction takes, and its number by the bytes from a place on, if all are there and it is

@@ -6,7 +6,7 @@ ghost use Rattle.fl_value_data.specs.Value.{call_of};
 ghost use Rattle.fl_model.specs.Views.{answer_of, brief_of, turned_of};
 
 use fl_base::{EndId, Frag};
-use fl_value_data::Call;
+use fl_compact_calls::CompactCall;
 
 /// What the machine answers to an event.
 #[derive(Drop)]
@@ -22,7 +22,7 @@ pub enum Answer {
     /// Fragment k of n was written.
     Written { k: usize, n: usize },
     /// A call was handled at an end.
-    Handle { end: EndId, call: Call },
+    Handle { end: EndId, call: CompactCall },
     /// A fragment was taken that makes no call whole.
     Part(EndId),
     /// A call's fragment stands at a polled channel.
@@ -104,7 +104,7 @@ impl BriefAnswer {
 
 impl TurnedAnswer {
     /// The answer, with the call that was handled.
-    pub fn whole(self, call: Call) -> Answer
+    pub fn whole(self, call: CompactCall) -> Answer
         ensures whole { answer_of result ≡ turned_of self (call_of call) }
     {
         match self {

@@ -10,6 +10,7 @@ ghost use Rattle.fl_model.specs.Steps.{Steps};
 use crate::answer::{Answer, BriefAnswer, TurnedAnswer};
 use crate::event::{DispatcherId, Event};
 use fl_base::EndId;
+use fl_compact_calls::CompactCall;
 use fl_value_data::Call;
 use std::alloc::{AllocError, Global};
 
@@ -57,7 +58,7 @@ pub trait Machine {
     fn step_turn(
         &mut self,
         dispatcher: DispatcherId,
-        handled: &mut Call,
+        handled: &mut CompactCall,
     ) -> Result<TurnedAnswer, AllocError>
         ensures steps { IfOk result (λ a. Steps shows self.old self.new (machine.turn (id_of dispatcher)) (turned_of a (call_of handled.new))) }
         ensures kept { OnErr result ((s : State) → shows self.old s → shows self.new s) };

@@ -20,13 +20,14 @@ ghost use Rattle.fl_check.specs.Text.{stands_for, text_fault};
 
 use fl_base::{MsgNo, faults};
 use fl_check::{TextRead, read_text};
+use fl_compact_calls::{CompactCall, NumberCall};
 use fl_interface::Interface;
 use fl_model::{Answer, BriefAnswer, Machine, TurnedAnswer};
 use fl_script_lines::{
     Command, LineFault, NamedEvent, RawItem, ScriptNames, Verb, next_part, next_repeated,
     print_answer, print_brief, print_fault, print_turned, read_command,
 };
-use fl_value_data::{Call, PlanNo, Value};
+use fl_value_data::{PlanNo, Value};
 use std::alloc::{AllocError, Global};
 use std::mem;
 
@@ -41,7 +42,7 @@ pub struct Script<M> {
     // The binding of the last call: most writes are of the same, and the next call is often of the one behind it.
     last: usize,
     // The call that was handled last.
-    handled: Call,
+    handled: CompactCall,
 }
 
 impl<M: Machine> Script<M> {
@@ -52,16 +53,15 @@ impl<M: Machine> Script<M> {
     pub fn new(alloc: Global) -> Result<Script<M>, AllocError>
         ensures start { IfOk result (λ r. IsAt M.shows r beginning) }
     {
+        let mut number = NumberCall::new(alloc)?;
+        let handled = CompactCall::of_number(&mut number, MsgNo(0), 0);
         Ok(Script {
             alloc,
             names: ScriptNames::new(alloc),
             machine: M::new(alloc)?,
             room: Vec::new(alloc),
             last: 0,
-            handled: Call {
-                msg: MsgNo(0),
-                args: Vec::new(alloc),
-            },
+            handled,
         })
     }
 

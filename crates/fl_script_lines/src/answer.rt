@@ -4,15 +4,18 @@ ghost use Rattle.std.specs.Prelude.{◌≡◌, ◌++◌, ◌<◌, OnOk, OnErr, c
 ghost use Rattle.std.specs.Fmt.{decimal, digit_glyph};
 ghost use Rattle.fl_base.specs.Prefix.{IsPrefix};
 ghost use Rattle.fl_value_data.specs.Value.{call_of};
+ghost use Rattle.fl_value.specs.Printed.{printed_call};
+ghost use Rattle.fl_compact_calls.specs.Held.{one_number};
 ghost use Rattle.fl_script_lines.specs.Answers.{hex, frag_text, end_named, call_at, answer_text, fault_text};
 ghost use Rattle.fl_model.specs.Views.{answer_of, brief_of, turned_of};
 ghost use Rattle.fl_script_lines.specs.Told.{names_of};
 
 use crate::names::ScriptNames;
 use fl_base::{EndId, Frag, Side};
+use fl_compact_calls::{CompactCall, SeenCall};
 use fl_model::{Answer, BriefAnswer, TurnedAnswer};
 use fl_value::print_call;
-use fl_value_data::Call;
+use fl_value_data::Value;
 use std::alloc::{AllocError, Global};
 
 // A number, digit by digit.
@@ -180,6 +183,22 @@ fn put_refused(out: &mut Vec<u8>, number: usize) -> Result<(), AllocError>
     put_number(out, number)
 }
 
+// A call of one number.
+#[tactic(auto, using(crate::proofs::Kept::pieces))]
+#[inline(always)]
+fn put_number_call(
+    alloc: Global,
+    out: &mut Vec<u8>,
+    name: &[u8],
+    number: u64,
+) -> Result<(), AllocError>
+    ensures ok { OnOk result (out.new.items ≡ out.old.items ++ printed_call name.now (one_number number)) }
+    ensures grows { IsPrefix out.old.items out.new.items }
+{
+    let args = [Value::Int(i128::from(number))];
+    print_call(alloc, out, name, &args)
+}
+
 // A call that was handled at an end.
 #[tactic(auto, using(crate::proofs::Kept::pieces))]
 fn put_call(
@@ -187,12 +206,25 @@ fn put_call(
     out: &mut Vec<u8>,
     names: &ScriptNames,
     end: EndId,
-    call: &Call,
+    call: &CompactCall,
 ) -> Result<(), AllocError>
     ensures ok { OnOk result (out.new.items ≡ out.old.items ++ call_at (names_of names.now) end (call_of call.now)) }
     ensures grows { IsPrefix out.old.items out.new.items }
 {
-    print_call(alloc, out, names.message_name(end, call.msg), &call.args)
+    match call.seen() {
+        SeenCall::Number(msg, number) => put_number_call(
+            alloc,
+            out,
+            names.message_name(end, msg),
+            number,
+        ),
+        SeenCall::Other(call) => print_call(
+            alloc,
+            out,
+            names.message_name(end, call.msg),
+            &call.args,
+        ),
+    }
 }
 
 // The same, behind its word and the end.
@@ -203,7 +235,7 @@ fn put_handled(
     out: &mut Vec<u8>,
     names: &ScriptNames,
     end: EndId,
-    call: &Call,
+    call: &CompactCall,
 ) -> Result<(), AllocError>
     ensures ok { OnOk result (out.new.items ≡ out.old.items
         ++ (codes "handle " ++ end_named (names_of names.now) end ++ codes " " ++ call_at (names_of names.now) end (call_of call.now))) }
@@ -289,7 +321,7 @@ fn print_handled(
     out: &mut Vec<u8>,
     names: &ScriptNames,
     end: EndId,
-    call: &Call,
+    call: &CompactCall,
 ) -> Result<(), AllocError>
     ensures printed { OnOk result (out.new.items ≡ out.old.items
         ++ (codes "handle " ++ end_named (names_of names.now) end ++ codes " " ++ call_at (names_of names.now) end (call_of call.now))) }
@@ -427,7 +459,7 @@ pub fn print_turned(
     out: &mut Vec<u8>,
     names: &ScriptNames,
     answer: TurnedAnswer,
-    handled: &Call,
+    handled: &CompactCall,
 ) -> Result<(), AllocError>
     ensures printed { OnOk result (out.new.items ≡ out.old.items ++ answer_text (names_of names.now) (turned_of answer (call_of handled.now))) }
     ensures kept { OnErr result (out.new.items ≡ out.old.items) }

@@ -102,6 +102,7 @@ impl World {
             programs,
             names,
             bindings,
+            number: _,
         } = self;
         let_go(Parts {
             cores,

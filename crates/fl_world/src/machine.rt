@@ -4,6 +4,7 @@ ghost use Rattle.fl_world_refines.specs.ShowsState.{Shows};
 
 use crate::world::World;
 use fl_base::EndId;
+use fl_compact_calls::CompactCall;
 use fl_model::{Answer, BriefAnswer, DispatcherId, Event, Machine, TurnedAnswer};
 use fl_value_data::Call;
 use fl_world_refines::{law_fresh_world_shows, law_steps_agree};
@@ -42,7 +43,7 @@ impl Machine for World {
     fn step_turn(
         &mut self,
         dispatcher: DispatcherId,
-        handled: &mut Call,
+        handled: &mut CompactCall,
     ) -> Result<TurnedAnswer, AllocError> {
         law_steps_agree();
         let outcome = self.turn(dispatcher, handled);

@@ -14,6 +14,7 @@ ghost use Rattle.fl_world.specs.Parts.{is_no_pair};
 
 use crate::world::World;
 use fl_base::{CoreId, MAX_CORES, MAX_DISPATCHERS, MAX_INTERFACES, MAX_SERVICES, faults};
+use fl_compact_calls::NumberCall;
 use fl_compile::compile;
 use fl_interface::Interface;
 use fl_model::{Answer, DispatcherId};
@@ -39,6 +40,7 @@ impl World {
         requires few { n ≤ 16 }
         ensures fresh { IfOk result (λ w. w ≡ fresh_world n) }
     {
+        let number = NumberCall::new(alloc)?;
         let cores = fresh_cores(alloc, n)?;
         Ok(World {
             alloc,
@@ -50,6 +52,7 @@ impl World {
             programs: Vec::new(alloc),
             names: Names::new(alloc),
             bindings: Vec::new(alloc),
+            number,
         })
     }
 

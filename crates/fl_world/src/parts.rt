@@ -24,6 +24,7 @@ impl World {
             programs,
             names,
             bindings,
+            number: _,
         } = self;
         Parts {
             cores,

@@ -17,6 +17,7 @@ ghost use Rattle.fl_world.specs.Stepping.{WantsMemory, RunsAlike, ShowsAfterSome
 
 use crate::world::World;
 use fl_base::{EndId, MsgNo};
+use fl_compact_calls::CompactCall;
 use fl_model::{Answer, BriefAnswer, DispatcherId, Event, TurnedAnswer};
 use fl_value_data::Call;
 use fl_world_refines::law_steps_agree;
@@ -76,10 +77,7 @@ impl World {
         ensures kept { OnErr result (self.new ≡ self.old) }
         ensures last { OnErr result (WantsToHandle (id_of dispatcher) self.old) }
     {
-        let mut handled = Call {
-            msg: MsgNo(0),
-            args: Vec::new(self.alloc),
-        };
+        let mut handled = CompactCall::of_number(&mut self.number, MsgNo(0), 0);
         match self.turn(dispatcher, &mut handled) {
             Ok(answer) => Ok(answer.whole(handled)),
             Err(error) => Err(error),

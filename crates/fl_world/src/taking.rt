@@ -14,9 +14,9 @@ ghost use Rattle.fl_world.specs.Places.{IsDueOver, TurnsFrom};
 
 use crate::world::World;
 use fl_base::{EndId, MsgNo, faults};
+use fl_compact_calls::CompactCall;
 use fl_core::Inlet;
 use fl_model::{Answer, BriefAnswer, DispatcherId, TurnedAnswer};
-use fl_value_data::Call;
 use fl_world_events::{
     DueEnd, EndLocation, ack_by_ring, deregister_in, register_by_queue, register_by_ring,
     register_in, ring_at, rule_in, rule_kept, tell_nothing, turn_by_queue, turn_by_ring, turn_in,
@@ -34,7 +34,7 @@ impl World {
     pub(crate) fn turn(
         &mut self,
         d: DispatcherId,
-        handled: &mut Call,
+        handled: &mut CompactCall,
     ) -> Result<TurnedAnswer, AllocError>
         ensures turns { IfOk result (λ a. HasTurn (id_of d) self.old (turned_of a (call_of handled.new)) self.new) }
         ensures kept { OnErr result (self.new ≡ self.old) }
@@ -69,7 +69,7 @@ impl World {
         n: usize,
         at: DueEnd,
         q: usize,
-        handled: &mut Call,
+        handled: &mut CompactCall,
     ) -> Result<TurnedAnswer, AllocError>
         requires due { IsDueOver self.old.cores n at (Inlet.Queue q) }
         ensures turns { IfOk result (λ a. TurnsFrom (Inlet.Queue q) n at self.old (turned_of a (call_of handled.new)) self.new) }
@@ -88,7 +88,7 @@ impl World {
         n: usize,
         at: DueEnd,
         m: usize,
-        handled: &mut Call,
+        handled: &mut CompactCall,
     ) -> Result<TurnedAnswer, AllocError>
         requires due { IsDueOver self.old.cores n at (Inlet.Side m) }
         ensures turns { IfOk result (λ a. TurnsFrom (Inlet.Side m) n at self.old (turned_of a (call_of handled.new)) self.new) }
@@ -106,7 +106,7 @@ impl World {
         &mut self,
         n: usize,
         at: DueEnd,
-        handled: &mut Call,
+        handled: &mut CompactCall,
     ) -> Result<TurnedAnswer, AllocError>
         requires due { IsDueOver self.old.cores n at Inlet.Arrivals }
         ensures turns { IfOk result (λ a. TurnsFrom Inlet.Arrivals n at self.old (turned_of a (call_of handled.new)) self.new) }

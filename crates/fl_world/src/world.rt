@@ -1,5 +1,6 @@
 //! The world, and what contracts see of it.
 
+use fl_compact_calls::NumberCall;
 use fl_compile::Program;
 use fl_core::Core;
 use fl_link::QueueLink;
@@ -23,6 +24,8 @@ pub struct World {
     pub(crate) programs: Vec<Program>,
     pub(crate) names: Names,
     pub(crate) bindings: Vec<Binding>,
+    // for contracts: what a call that a turn handles takes the place of
+    pub(crate) number: NumberCall,
 }
 
 impl Model for World {

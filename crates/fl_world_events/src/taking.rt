@@ -22,15 +22,14 @@ ghost use Rattle.fl_world_events.specs.Wants.{HandlesCall, HandlesOnRing, Handle
 
 use crate::lending::{law_whole, which_at};
 use fl_base::{EndId, MsgNo, faults};
+use fl_compact_calls::CompactCall;
 use fl_core::{AckAnswer, BoardFault, Core, TurnAnswer};
 use fl_endpoint::EndFault;
 use fl_link::QueueLink;
 use fl_model::{Answer, BriefAnswer, TurnedAnswer};
 use fl_ring::{OneDuo, law_forgets_looks};
-use fl_value_data::Call;
 use fl_world_refines::Binding;
 use std::alloc::AllocError;
-use std::mem;
 
 // ---- turns
 
@@ -45,17 +44,23 @@ pub struct DueEnd {
     pub name: EndId,
 }
 
-// What is answered for a turn that looked at an end. A call that was handled takes the place of one of before, whose list is
+// What is answered for a turn that looked at an end. A call that was handled takes the place of one of before, whose memory is
 // the core's for its next call.
 #[inline(always)]
-fn answer_turn(core: &mut Core, answer: TurnAnswer, end: EndId, handled: &mut Call) -> TurnedAnswer
+fn answer_turn(
+    core: &mut Core,
+    answer: TurnAnswer,
+    end: EndId,
+    handled: &mut CompactCall,
+) -> TurnedAnswer
     ensures turned { turned_of result (call_of handled.new) ≡ turn_answer end answer }
     ensures same { core.new ≡ core.old }
 {
     match answer {
         TurnAnswer::Handle(call) => {
-            let before = mem::replace(handled, call);
-            core.give_back(before.args);
+            if let Some(memory) = call.put_in(handled) {
+                core.give_back(memory);
+            }
             TurnedAnswer::Handle(end)
         }
         TurnAnswer::Part => TurnedAnswer::Part(end),
@@ -84,7 +89,7 @@ pub fn turn_by_queue(
     core: &mut Core,
     at: DueEnd,
     queue: &mut QueueLink,
-    handled: &mut Call,
+    handled: &mut CompactCall,
 ) -> Result<TurnedAnswer, AllocError>
     requires there { at.dispatcher < length core.old.board.dispatchers }
     requires due { due core.old.board at.dispatcher ≡ Some at.end }
@@ -139,13 +144,15 @@ pub fn turn_by_ring(
     at: DueEnd,
     ring: &mut OneDuo,
     m: usize,
-    handled: &mut Call,
+    handled: &mut CompactCall,
 ) -> Result<TurnedAnswer, AllocError>
     requires there { at.dispatcher < length core.old.board.dispatchers }
     requires due { due core.old.board at.dispatcher ≡ Some at.end }
     requires end { at.end < length core.old.board.seats }
     requires lent { arrivals_of core.old at.end ≡ None }
-    ensures turns { IfOk result (λ a. ByRing m (TurnsWith SideTakes (as_turn at.dispatcher at.end at.name (turned_of a (call_of handled.new)))) core.old ring.old core.new ring.new) }
+    ensures turns { IfOk result (λ a. ByRing m
+        (TurnsWith SideTakes (as_turn at.dispatcher at.end at.name (turned_of a (call_of handled.new))))
+        core.old ring.old core.new ring.new) }
     ensures kept { OnErr result (core.new ≡ core.old) }
     ensures left { OnErr result (ring.new ≡ ring.old) }
     ensures wants { OnErr result (HandlesOnRing m at.dispatcher at.end core.old.board ring.old) }
@@ -166,7 +173,11 @@ pub fn turn_by_ring(
 ///
 /// # Errors
 /// Out of memory, only where it would handle a call.
-pub fn turn_in(core: &mut Core, at: DueEnd, handled: &mut Call) -> Result<TurnedAnswer, AllocError>
+pub fn turn_in(
+    core: &mut Core,
+    at: DueEnd,
+    handled: &mut CompactCall,
+) -> Result<TurnedAnswer, AllocError>
     requires there { at.dispatcher < length core.old.board.dispatchers }
     requires due { due core.old.board at.dispatcher ≡ Some at.end }
     requires end { at.end < length core.old.board.seats }

@@ -9,6 +9,7 @@ ghost use Rattle.fl_endpoint.specs.Lent.{IsPlaceOf};
 use crate::end_rows::{AT_LAST, EXAMPLES, EndAction, EndExample, Received};
 use crate::texts::program;
 use fl_base::{Circuit, Frag, MsgNo};
+use fl_compact_calls::NumberCall;
 use fl_core::{law_one_dispatcher_changes, law_one_end_changes, law_turn_accounts};
 use fl_endpoint::{
     End, EndFault, ReceiveAnswer, WriteAnswer, law_accounts_add_up, law_bind_accounts,
@@ -183,7 +184,10 @@ type Came = Result<ReceiveAnswer, EndFault>;
 // Whether the call of this text is handled.
 fn is_handled(alloc: Global, end: &End, came: &Came, text: &[u8]) -> Result<bool, AllocError> {
     match came {
-        Ok(ReceiveAnswer::Handle(call)) => is_text(alloc, end, call, text),
+        Ok(ReceiveAnswer::Handle(call)) => {
+            let mut number = NumberCall::new(alloc)?;
+            is_text(alloc, end, call.lend(&mut number), text)
+        }
         _ => Ok(false),
     }
 }

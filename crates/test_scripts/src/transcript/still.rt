@@ -1,6 +1,7 @@
 //! A system that stays as it is at its start: each event is out of memory.
 
 use fl_base::EndId;
+use fl_compact_calls::CompactCall;
 use fl_model::{Answer, BriefAnswer, DispatcherId, Event, Machine, TurnedAnswer};
 use fl_value_data::Call;
 use std::alloc::{AllocError, Global};
@@ -33,7 +34,7 @@ impl Machine for Still {
     fn step_turn(
         &mut self,
         _dispatcher: DispatcherId,
-        _handled: &mut Call,
+        _handled: &mut CompactCall,
     ) -> Result<TurnedAnswer, AllocError> {
         Err(AllocError)
     }

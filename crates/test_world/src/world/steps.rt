@@ -81,7 +81,7 @@ fn is_answer(place: usize, answer: &Answer) -> bool {
         Answer::Words(frag) => place == 7 && frag.words[0] == 7 && frag.control == 3,
         Answer::Written { k, n } => place == 8 && *k == 1 && *n == 1,
         Answer::Handle { end, call } => {
-            place == 9 && *end == SERVER && matches!(call.args.first(), Some(Value::Int(7)))
+            place == 9 && *end == SERVER && matches!(call.number(), Some(7))
         }
         Answer::Nothing => place == 10,
         _ => false,

@@ -1,4 +1,4 @@
-use Rattle.std.proofs.Common.{◌≡◌, Some, sym}
+use Rattle.std.proofs.Common.{◌≡◌, Some, sym, ap, ◌∙◌}
 use Rattle.fl_value_data.specs.Value.{call_of}
 use Rattle.fl_compile.specs.Programs.{program_of}
 use Rattle.fl_endpoint.specs.View.{rule_at}
@@ -6,9 +6,17 @@ use Rattle.fl_endpoint.specs.Rules.{rules_of}
 use Rattle.fl_endpoint.proofs.Sounds.{reply_fits}
 use Rattle.fl_endpoint.proofs.incoming.reply_by_rule.Goals as goal
 
-pub of-queued-requires : goal.of-queued-requires
-of-queued-requires c =
+pub of_compact-requires : goal.of_compact-requires
+of_compact-requires c =
     let p = program_of c.args.program.now in
+    let rules = rules_of c.args.rules.now.replies.items in
     let d = call_of c.args.call.now in
-    let rule : rule_at (rules_of c.args.rules.now.replies.items) d.msg ≡ Some c.in-Some.reply.0 = sym c.in-Some.ensures.rule in
-    reply_fits p.interface (rules_of c.args.rules.now.replies.items) d c.in-Some.reply.0 c.requires.rules rule c.requires.fits
+    let reply = c.in-Some.reply.0 in
+    let rule : rule_at rules d.msg ≡ Some reply = ap (rule_at rules) (sym c.msg.ensures.msg) ∙ sym c.in-Some.ensures.rule in
+    record {
+      sends = record {
+        fits = c.requires.fits;
+        fits_so = reply_fits p.interface rules d reply c.requires.rules rule c.requires.fits;
+        types = (c.requires.rules.each d.msg reply rule).types;
+      };
+    }

@@ -1,4 +1,4 @@
-use Rattle.std.proofs.Common.{◌≡◌, ℕ, [], length, Option, Some, sym, ap, subst, arith, rules}
+use Rattle.std.proofs.Common.{◌≡◌, ℕ, [], length, Option, Some, refl, sym, ap, subst, arith, rules}
 use Rattle.std.specs.Prelude.{IsSome}
 use Rattle.fl_value_data.specs.Value.{call_of}
 use Rattle.fl_endpoint.specs.View.{TheEnd, TheOutgoing, queued}
@@ -35,3 +35,8 @@ pub begin-requires-clause-idle : goal.begin-requires-clause-idle
 begin-requires-clause-idle c =
     let e = c.self.inside in
     none_sending e.outgoing.sending e.outgoing.payload (subst (λ (s : TheEnd). s.outgoing.unwritten ≡ []) (sym c.self.view_is) c.in-Ok.ensures.admits.3)
+
+pub of-requires : goal.of-requires
+of-requires c =
+    let fits : Fits (end_of c.self.inside) (call_of c.args.call.now) = subst (λ (s : TheEnd). Fits s (call_of c.args.call.now)) (sym c.self.view_is) c.in-Ok.ensures.admits.0 in
+    record { sends = record { fits = fits; fits_so = fits; types = refl } }

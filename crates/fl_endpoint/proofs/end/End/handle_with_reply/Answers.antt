@@ -58,7 +58,7 @@ returns-in-Ok-accept c =
     = c.in-Ok-accept.ensures.accepted in
     record {
       handles = (
-        c.reply_by_rule.ensures.same,
+        refl,
         handled_end e c.accept.new.self d c.in-Ok.reply k bound c.in-Ok.ensures.reply out ∙ ap (λ (s : TheEnd). with_handled s d) c.self.view_is,
       );
     }
