@@ -25,6 +25,8 @@ extern "C" {
     fn stubs_bench_give(text: *const u8, len: usize, call: *const u8, call_len: usize, second: bool, count: u64) -> u64;
     fn stubs_bench_send(text: *const u8, len: usize, call: *const u8, call_len: usize, second: bool, count: u64) -> u64;
     fn stubs_bench_encode(text: *const u8, len: usize, call: *const u8, call_len: usize, second: bool, count: u64) -> u64;
+    fn stubs_bench_give_at_end(text: *const u8, len: usize, call: *const u8, call_len: usize, second: bool, count: u64) -> u64;
+    fn stubs_bench_send_at_end(text: *const u8, len: usize, call: *const u8, call_len: usize, second: bool, count: u64) -> u64;
     fn stubs_bench_take(text: *const u8, len: usize, call: *const u8, call_len: usize, second: bool, count: u64) -> u64;
     fn stubs_bench_receive(text: *const u8, len: usize, call: *const u8, call_len: usize, second: bool, count: u64) -> u64;
     fn stubs_bench_assemble(text: *const u8, len: usize, call: *const u8, call_len: usize, second: bool, count: u64) -> u64;
@@ -47,11 +49,21 @@ struct Work {
     others: &'static [(&'static str, Side)],
 }
 
-const WORK: [Work; 6] = [
+const WORK: [Work; 8] = [
     Work {
         name: "a tape to fragments",
         ours: Side::Proved(stubs_bench_give),
         others: &[("plain machine", Side::Plain(plain::give))],
+    },
+    Work {
+        name: "a tape, at an end",
+        ours: Side::Proved(stubs_bench_give_at_end),
+        others: &[("plain machine", Side::Plain(plain::give))],
+    },
+    Work {
+        name: "a call, at an end",
+        ours: Side::Proved(stubs_bench_send_at_end),
+        others: &[("plain machine", Side::Plain(plain::send)), ("plain encoder", Side::Plain(plain::encode))],
     },
     Work {
         name: "a call to fragments",
@@ -190,18 +202,40 @@ fn sixteen_words() -> Row {
     words("sixteen uint64", interface, 16, 3)
 }
 
-fn text() -> Row {
-    let text: Vec<u8> = (0..2_047).map(|k| b'a' + (k % 26) as u8).collect();
-    let send = vec![Op::Align, Op::Length, Op::Each, Op::Emit(1), Op::Back, Op::End];
-    let receive =
-        vec![TakeOp::Align, TakeOp::Length(2_047), TakeOp::Each, TakeOp::Text, TakeOp::Back, TakeOp::Done];
+fn one_byte() -> Row {
     Row {
-        name: "a string of 2,047 bytes",
-        interface: "interface i { message m(string s); }",
-        call: format!("m(\"{}\")", String::from_utf8_lossy(&text)),
-        frags: 37,
-        stub: one_message(vec![ArgType::Text(2_047)], vec![Value::Text(text)], send, receive),
+        name: "one byte",
+        interface: "interface i { message m(uint8 a); }",
+        call: "m(7)".into(),
+        frags: 1,
+        stub: one_message(
+            vec![fixed(Scalar::Unsigned(1))],
+            vec![Value::Int(7)],
+            vec![Op::Emit(1), Op::End],
+            vec![TakeOp::Read(1), TakeOp::Done],
+        ),
     }
+}
+
+fn text(name: &'static str, interface: &'static str, bytes: u64, frags: u64) -> Row {
+    let text: Vec<u8> = (0..bytes).map(|k| b'a' + (k % 26) as u8).collect();
+    let send = vec![Op::Align, Op::Length, Op::Each, Op::Emit(1), Op::Back, Op::End];
+    let receive = vec![TakeOp::Align, TakeOp::Length(bytes), TakeOp::Each, TakeOp::Text, TakeOp::Back, TakeOp::Done];
+    Row {
+        name,
+        interface,
+        call: format!("m(\"{}\")", String::from_utf8_lossy(&text)),
+        frags,
+        stub: one_message(vec![ArgType::Text(bytes)], vec![Value::Text(text)], send, receive),
+    }
+}
+
+fn string() -> Row {
+    text("a string of 2,047 bytes", "interface i { message m(string s); }", 2_047, 37)
+}
+
+fn long_string() -> Row {
+    text("a string of 4,096 bytes", "interface i { message m(string s[4096]); }", 4_096, 74)
 }
 
 fn numbers() -> Row {
@@ -334,7 +368,7 @@ fn main() {
     println!("the least of {RUNS} stretches, nanoseconds for a call; a ratio above 1 says that stub code is faster");
     // one row by a word of its name, or all
     let word = env::args().nth(1).unwrap_or_default();
-    for row in [scalars(), eight_words(), sixteen_words(), text(), numbers(), structs()].into_iter().filter(|row| row.name.contains(&word)) {
+    for row in [one_byte(), scalars(), eight_words(), sixteen_words(), string(), long_string(), numbers(), structs()].into_iter().filter(|row| row.name.contains(&word)) {
         println!("{}", row.name);
         let count = FRAGS / row.frags;
         for work in WORK {

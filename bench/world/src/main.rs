@@ -39,6 +39,7 @@ extern "C" {
         first: usize,
         dispatchers: usize,
         slots: u32,
+        as_scripts: bool,
         rounds: u64,
     ) -> u64;
     fn clock_gettime(clock: i32, time: *mut [i64; 2]) -> i32;
@@ -146,10 +147,18 @@ fn stub() -> Stub {
     Stub::new(types, call, vec![Op::Emit(4), Op::End], vec![TakeOp::Read(4), TakeOp::Done])
 }
 
-fn proved(text: &str, call: &str, shape: Shape, rounds: u64) -> u64 {
+/// How the proved side does events: as scripts do those that they repeat, or each by `replay`.
+#[derive(Clone, Copy, PartialEq)]
+enum Way {
+    AsScripts,
+    Replay,
+}
+
+fn proved(text: &str, call: &str, shape: Shape, way: Way, rounds: u64) -> u64 {
     let Shape { joint, bindings, first, dispatchers, slots } = shape;
+    let (text, call, joint, as_scripts) = (text.as_bytes(), call.as_bytes(), joint as u64, way == Way::AsScripts);
     // The library asks nothing of the texts, and reads them during the call alone.
-    let sum = unsafe { world_bench(text.as_ptr(), text.len(), call.as_ptr(), call.len(), joint as u64, bindings, first, dispatchers, slots, rounds) };
+    let sum = unsafe { world_bench(text.as_ptr(), text.len(), call.as_ptr(), call.len(), joint, bindings, first, dispatchers, slots, as_scripts, rounds) };
     assert_ne!(sum, 0, "something was refused");
     sum
 }
@@ -174,7 +183,7 @@ struct Times {
 }
 
 impl Times {
-    fn new() -> Times {
+    const fn new() -> Times {
         Times { before: f64::MAX, all: f64::MAX }
     }
 
@@ -205,21 +214,23 @@ fn report(work: &Work, stub: &Stub, numbers: (usize, usize, usize)) {
     let shape = shape_of(work, numbers);
     let (bindings, calling, dispatchers) = numbers;
     let rounds = EVENTS / (calling as u64 * work.events);
-    let ours = |rounds| proved(TEXT, CALL, shape, rounds);
+    let ours = |rounds| proved(TEXT, CALL, shape, Way::AsScripts, rounds);
+    let replayed = |rounds| proved(TEXT, CALL, shape, Way::Replay, rounds);
     let theirs = |rounds| rounds::run(stub, shape, rounds);
-    let (mut a, mut b) = (Times::new(), Times::new());
+    let sides: [&dyn Fn(u64) -> u64; 3] = [&ours, &replayed, &theirs];
+    let mut times = [const { Times::new() }; 3];
     for _ in 0..RUNS {
-        let (ours, theirs) = (a.add(&ours, rounds), b.add(&theirs, rounds));
-        assert_eq!(ours, theirs, "the two sides handled other calls");
-        assert_eq!(ours, 1 + 8 * (rounds + 1) * calling as u64, "not each call was handled");
+        for (times, side) in times.iter_mut().zip(sides) {
+            assert_eq!(times.add(side, rounds), 1 + 8 * (rounds + 1) * calling as u64, "not each call was handled");
+        }
     }
     let events = (rounds * calling as u64 * work.events) as f64;
-    let (a, b) = ((a.all - a.before) / events, (b.all - b.before) / events);
+    let [ours_takes, replay_takes, plain_takes] = times.map(|times| (times.all - times.before) / events);
     let asked = requests(&ours, rounds) as f64 / events;
     println!(
-        "{bindings:>6} bindings, {calling:>5} of them call, {dispatchers:>4} dispatchers: proved {a:7.1} ns an event ({:6.2} M/s)   plain {b:7.1}   ratio {:.2}   requests for memory {asked:.2}",
-        1e3 / a,
-        b / a
+        "{bindings:>6} bindings, {calling:>5} of them call, {dispatchers:>4} dispatchers: as scripts do {ours_takes:6.1} ns an event, replayed {replay_takes:6.1}, plain {plain_takes:6.1}   ratio {:.2}, {:.2}   requests for memory {asked:.2}",
+        plain_takes / ours_takes,
+        plain_takes / replay_takes
     );
 }
 
@@ -241,11 +252,11 @@ fn each(world: &dyn Fn(usize) -> u64) -> f64 {
 
 fn report_memory(work: &Work, stub: &Stub) {
     let shape = |bindings| shape_of(work, (bindings, bindings, 1));
-    let ours = each(&|bindings| proved(TEXT, CALL, shape(bindings), 0));
+    let ours = each(&|bindings| proved(TEXT, CALL, shape(bindings), Way::AsScripts, 0));
     let theirs = each(&|bindings| rounds::run(stub, shape(bindings), 0));
     println!("{}, {} slots: a binding takes {ours:.0} bytes   plain {theirs:.0}", work.name, work.slots);
     for (name, text) in LONGER {
-        println!("    calls of {name}: {:.0} bytes", each(&|bindings| proved(text, "", shape(bindings), 0)));
+        println!("    calls of {name}: {:.0} bytes", each(&|bindings| proved(text, "", shape(bindings), Way::AsScripts, 0)));
     }
 }
 
@@ -256,7 +267,11 @@ fn run_once(words: &[String]) {
         panic!("six numbers");
     };
     let shape = shape_of(&WORK[work], (bindings, calling, dispatchers));
-    black_box(if side == 0 { proved(TEXT, CALL, shape, rounds as u64) } else { rounds::run(&stub(), shape, rounds as u64) });
+    black_box(match side {
+        0 => proved(TEXT, CALL, shape, Way::AsScripts, rounds as u64),
+        1 => proved(TEXT, CALL, shape, Way::Replay, rounds as u64),
+        _ => rounds::run(&stub(), shape, rounds as u64),
+    });
 }
 
 // The instructions of such a run, by valgrind.
@@ -279,12 +294,12 @@ fn count_instructions() {
         println!("{}", work.name);
         for (bindings, calling, dispatchers) in SHAPES.into_iter().filter(|shape| applies(work, *shape)) {
             let rounds = 1 + 10_000 / calling;
-            let [ours, theirs] = [0, 1].map(|side| {
+            let [ours, replayed, theirs] = [0, 1, 2].map(|side| {
                 let more = instructions([number, side, bindings, calling, dispatchers, 1 + rounds]);
                 let once = instructions([number, side, bindings, calling, dispatchers, 1]);
                 (more - once) / (rounds * calling) as f64 / work.events as f64
             });
-            println!("{bindings:>6} bindings, {calling:>5} of them call, {dispatchers:>4} dispatchers: proved {ours:4.0} instructions an event   plain {theirs:4.0}");
+            println!("{bindings:>6} bindings, {calling:>5} of them call, {dispatchers:>4} dispatchers: as scripts do {ours:4.0} instructions an event, replayed {replayed:4.0}, plain {theirs:4.0}");
         }
     }
 }
