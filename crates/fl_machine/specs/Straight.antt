@@ -1,8 +1,9 @@
 -- Working file: fields outside loops, which lie in one fragment.
-use Rattle.std.specs.Prelude.{drop, ℕ, ◌+◌, ◌%◌, ◌≤◌, Bool, true, false, List, []}
+use Rattle.std.specs.Prelude.{◌≡◌, drop, ℕ, ◌+◌, ◌%◌, ◌^◌, ◌<◌, ◌≤◌, Bool, true, false, List, [], ◌++◌}
 use Rattle.fl_stub.specs.declared.op.Op.{Op}
 use Rattle.fl_stub.specs.declared.op.Op.TheVariants.{Read, ReadBool, ReadEnum, ReadChar, ReadText, Skip}
-use Rattle.fl_stub.specs.Locations.{TheEndLocation}
+use Rattle.fl_stub.specs.Meaning.{number_bytes}
+use Rattle.fl_stub.specs.Locations.{TheEndLocation, IsLocation, bytes_from}
 use Rattle.fl_machine.specs.declared.cursor.SendCursor.{SendCursor}
 use Rattle.fl_machine.specs.declared.intake.ByteField.{ByteField}
 use Rattle.fl_machine.specs.declared.intake.RecvCursor.{RecvCursor}
@@ -33,9 +34,24 @@ pub record HasNumber (f : ByteField) (buffer : List ℕ) (used number : ℕ) : T
   pub least : f.least ≤ number
   pub last : number ≤ f.last
 
--- where a run of send code stands that has given so many numbers of a tape, in so many bytes, and nothing else
-abbrev pub straight_location : List ℕ → ℕ → ℕ → TheEndLocation
-straight_location tape count filled = record { place = count; loops = []; tape = drop count tape; at = filled % 8; value = 0; width = 0 }
+-- where a run of send code stands that has met no loop: before this instruction, this number of the tape, with so many
+-- bytes given
+abbrev pub straight_location : List ℕ → ℕ → ℕ → ℕ → TheEndLocation
+straight_location tape place next filled = record {
+  place = place;
+  loops = [];
+  tape = drop next tape;
+  at = filled % 8;
+  value = 0;
+  width = 0;
+}
+
+-- the bytes of this number given whole, from one location to another
+pub record GivesNumber (ops : List Op) (s t : TheEndLocation) (number width : ℕ) : Type 0 where
+  pub few : width ≤ 8
+  pub small : number < 256 ^ width
+  pub location : IsLocation ops t
+  pub bytes : bytes_from ops s ≡ number_bytes width number ++ bytes_from ops t
 
 -- where a run of send code stands further on in the same loops: before this instruction, this number of the tape, at this place in
 -- the payload, with so many bytes of a number to be given

@@ -1,6 +1,7 @@
 //! Runs of send code.
 
-ghost use Rattle.std.specs.Prelude.{◌≡◌, ◌≢◌, ◌+◌, ◌<◌, ◌≤◌, ◌^◌, ◌++◌, ◌∷◌, ℕ, true, List, [], take, drop, map, length, slice_get, slice_index, Some, IfSome};
+ghost use Rattle.std.specs.Prelude.{◌≡◌, ◌≢◌, ◌+◌, ◌<◌, ◌≤◌, ◌^◌, ◌++◌, ◌∷◌, ℕ, true, List, [], take, drop, map, length, slice_get, slice_index};
+ghost use Rattle.std.specs.Prelude.{Some, IfSome, IsTrue};
 ghost use Rattle.fl_stub.specs.declared.op.Op.TheVariants.{Emit as emit_op};
 ghost use Rattle.std.specs.List.{range_with_len};
 ghost use Rattle.fl_base.specs.Control.{control_word};
@@ -11,11 +12,11 @@ ghost use Rattle.fl_stub.specs.Given.{bytes_given};
 ghost use Rattle.fl_stub.specs.Locations.{IsLocation, IsSettled, bytes_from};
 ghost use Rattle.fl_machine.specs.Cursors.{location_of, low_byte as low_byte_of, IsRun};
 ghost use Rattle.fl_machine.specs.Filling.{Holds, Puts, PutsRun};
-ghost use Rattle.fl_machine.specs.Straight.{straight_location};
+ghost use Rattle.fl_machine.specs.Straight.{straight_location, GivesNumber};
 ghost use Rattle.fl_wire.specs.Payload.{word as word_of};
 ghost use Rattle.fl_machine.specs.Sending.{frags_holding, frags_left, RunsOn};
 
-use crate::cursor::{SendCursor, low_byte, low_bytes};
+use crate::cursor::{SendCursor, is_op, low_byte, low_bytes};
 use crate::intake::op_at;
 use fl_base::{Circuit, Frag, MsgNo, control};
 use fl_stub::{Op, VerifiedCode};
@@ -317,33 +318,59 @@ fn run_first(code: &VerifiedCode, msg: MsgNo, circuit: Circuit, tape: &[u64]) ->
     frag_with(&buffer, true, msg, circuit)
 }
 
-// The bytes of a call whose send code gives numbers alone, zeros after their end; `None` for other code, and where they may be more
-// than a fragment's.
+// What an instruction gives that gives a number alone, or zeros, which are a number that the tape hasn't: the number, how many bytes
+// it has, and where the tape goes on. `None` for others, where the tape has no more, and where eight bytes aren't free.
 #[inline(always)]
-fn straight_bytes(ops: &[Op], tape: &[u64]) -> Option<[u8; 56]>
-    requires location { IsLocation ops.now (straight_location tape.now 0 0) }
-    ensures bytes { IfSome result (λ buffer. (i : ℕ) → i < 56 → slice_index buffer i ≡ slice_index (bytes_from ops.now (straight_location tape.now 0 0)) i) }
+fn given_at(
+    filled: usize,
+    ops: &[Op],
+    place: usize,
+    tape: &[u64],
+    next: usize,
+) -> Option<(u64, u32, usize)>
+    requires location { IsLocation ops.now (straight_location tape.now place next filled) }
+    ensures room { IfSome result (λ r. filled + 8 ≤ 56) }
+    ensures inside { IfSome result (λ r. place < length ops.now) }
+    ensures place { IfSome result (λ r. place + 1 < 2 ^ 64) }
+    ensures given { IfSome result (λ r. GivesNumber ops.now (straight_location tape.now place next filled)
+        (straight_location tape.now (place + 1) r.2 (filled + r.1)) r.0 r.1) }
 {
-    let mut buffer = [0; 56];
-    let mut count = 0;
-    let mut filled = 0;
-    while count < ops.len() {
-        let Some(op) = op_at(ops, count) else {
-            return None;
-        };
-        let width = match op {
-            Op::Emit(width) => width,
-            Op::End => return Some(buffer),
-            _ => return None,
-        };
-        if filled > 48 || count >= tape.len() {
-            return None;
-        }
-        put_number(&mut buffer, filled, low_bytes(tape[count], width));
-        filled += width as usize;
-        count += 1;
+    if filled > 48 {
+        return None;
     }
-    None
+    let Some(op) = op_at(ops, place) else {
+        return None;
+    };
+    match op {
+        Op::Emit(width) => {
+            if next >= tape.len() {
+                return None;
+            }
+            Some((low_bytes(tape[next], width), width, next + 1))
+        }
+        Op::Pad(zeros) => Some((0, zeros, next)),
+        _ => None,
+    }
+}
+
+// Puts the bytes of a call whose send code gives numbers and zeros alone; whether these are all. For other code, and where a number or
+// zeros begin behind byte 48, it is false.
+#[inline(always)]
+fn put_straight(buffer: &mut [u8; 56], ops: &[Op], tape: &[u64]) -> bool
+    requires location { IsLocation ops.now (straight_location tape.now 0 0 0) }
+    requires none { Holds buffer.old [] }
+    ensures bytes { IsTrue result → (i : ℕ) → i < 56 → slice_index buffer.new i ≡ slice_index (bytes_from ops.now (straight_location tape.now 0 0 0)) i }
+{
+    let mut place = 0;
+    let mut next = 0;
+    let mut filled = 0;
+    while let Some((number, width, after)) = given_at(filled, ops, place, tape, next) {
+        put_number(buffer, filled, number);
+        filled += width as usize;
+        next = after;
+        place += 1;
+    }
+    is_op(ops, place, Op::End)
 }
 
 /// The first fragment of a call, by its message's send code and its tape: that which [`SendRun::start`]'s run gives first.
@@ -353,10 +380,11 @@ pub fn first_frag(code: &VerifiedCode, msg: MsgNo, circuit: Circuit, tape: &[u64
     requires { code.now.column ≡ send }
     ensures { Some result ≡ slice_get (frags_holding true msg.0 circuit.0 (bytes_given (block_of code.now.ops) tape.now)) 0 }
 {
-    match straight_bytes(code.ops(), tape) {
-        Some(buffer) => frag_with(&buffer, true, msg, circuit),
-        None => run_first(code, msg, circuit, tape),
+    let mut buffer = [0; 56];
+    if put_straight(&mut buffer, code.ops(), tape) {
+        return frag_with(&buffer, true, msg, circuit);
     }
+    run_first(code, msg, circuit, tape)
 }
 
 impl SendRun {

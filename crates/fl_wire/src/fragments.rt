@@ -16,6 +16,7 @@ use fl_value_data::{Call, PlanNo};
 use std::alloc::{AllocError, Global};
 
 // What follows the first `k` fragments' bytes.
+#[inline(always)]
 fn rest_from(payload: &[u8], k: usize) -> &[u8]
     ensures rest { result.now ≡ drop (56 * k) payload.now }
 {
@@ -83,6 +84,7 @@ fn full_words(bytes: &[u8]) -> [u64; 7]
 }
 
 // The seven words of a fragment, with zeros after the end of the bytes.
+#[inline(never)]
 fn last_words(bytes: &[u8]) -> [u64; 7]
     ensures words { result ≡ map (word bytes.now) (range_with_len 0 7) }
 {
@@ -110,6 +112,7 @@ fn first_words(bytes: &[u8]) -> [u64; 7]
 }
 
 /// Fragment `k` of a message with these payload bytes, with epoch 0 and circuit 0.
+#[inline(always)]
 pub fn fragment(payload: &[u8], msg: MsgNo, k: usize) -> Frag
     ensures frag { result ≡ frag_on 0 msg.0 payload.now k }
 {
