@@ -11,7 +11,7 @@ ghost use Rattle.fl_compile_tape.specs.Frags.{frag_bytes, HasFrags};
 use crate::receive::call_by;
 use fl_base::{FRAG_BYTES, Frag, MsgNo};
 use fl_compile::Program;
-use fl_value_data::Call;
+use fl_value_data::{Call, Value};
 use std::alloc::{AllocError, Global};
 use std::mem;
 
@@ -98,12 +98,14 @@ impl ReadingRoom {
 }
 
 /// The call of a message whose fragments these are, where they are known to be a fitting call's, as those are that receive code has
-/// accepted. Takes memory for the call, and for `room` where that is too small.
+/// accepted. Takes memory for the call, and for `room` where that is too small. The call's arguments stand in the memory of `list`,
+/// whose own values are dropped, where the plan's order is the declared one.
 ///
 /// # Errors
 /// Out of memory (E99), and nothing else.
 pub fn call_of_frags(
     alloc: Global,
+    list: Vec<Value>,
     program: &Program,
     msg: MsgNo,
     frags: &[Frag],
@@ -114,5 +116,12 @@ pub fn call_of_frags(
         → call_of call ≡ c) }
 {
     put_bytes(alloc, &mut room.bytes, frags)?;
-    call_by(alloc, program, msg, room.bytes.as_slice(), &mut room.tape)
+    call_by(
+        alloc,
+        list,
+        program,
+        msg,
+        room.bytes.as_slice(),
+        &mut room.tape,
+    )
 }

@@ -8,7 +8,7 @@ ghost use Rattle.fl_compile_tape.specs.TapeLaws.{HasPayload};
 
 use fl_base::MsgNo;
 use fl_compile::Program;
-use fl_value_data::Call;
+use fl_value_data::{Call, Value};
 use fl_value_unpack::unpack;
 use std::alloc::{AllocError, Global};
 
@@ -50,12 +50,14 @@ fn chosen<'p>(first: bool, one: &'p [u8], other: &'p [u8]) -> &'p [u8]
 /// The call of a message whose payload the bytes begin with, where they are known to begin with a fitting call's and
 /// are a multiple of 8, as those of whole fragments: taken by its message's prepared code, which means its receive
 /// code. Where this puts nothing between a tape's bytes, the payload is read as it is; else the packed tape takes the
-/// place of what stood on `tape`, in its memory where there is enough.
+/// place of what stood on `tape`, in its memory where there is enough. The call's arguments stand in the memory of `room`, whose own
+/// values are dropped, where the plan's order is the declared one.
 ///
 /// # Errors
 /// Out of memory (E99), and nothing else.
 pub fn call_by(
     alloc: Global,
+    room: Vec<Value>,
     program: &Program,
     msg: MsgNo,
     payload: &[u8],
@@ -69,5 +71,5 @@ pub fn call_by(
     let plan = program.plan();
     let plain = take_packed(program, msg, payload, tape)?;
     let packed = chosen(plain, payload, tape.as_slice());
-    unpack(alloc, msg, packed, interface, plan)
+    unpack(alloc, room, msg, packed, interface, plan)
 }

@@ -92,12 +92,12 @@ byte_of_words (w ∷ ws) (suc j) r h small =
     get_or-append_right (number_bytes 8 w) (words_bytes ws) 8 (8 * suc j + r) 0 refl (omega arith)
     ∙ ap (λ (q : ℕ). get_or (words_bytes ws) q 0) (omega arith) ∙ byte_of_words ws j r (omega (arith, h)) small
 
-length_words : (ws : List ℕ) → length (words_bytes ws) ≡ 8 * length ws
+pub length_words : (ws : List ℕ) → length (words_bytes ws) ≡ 8 * length ws
 length_words [] = refl
 length_words (w ∷ ws) = length-append (number_bytes 8 w) (words_bytes ws) ∙ omega (arith, length_words ws)
 
 -- each byte is one
-words_small : (ws : List ℕ) (p : ℕ) → get_or (words_bytes ws) p 0 < 256
+pub words_small : (ws : List ℕ) (p : ℕ) → get_or (words_bytes ws) p 0 < 256
 words_small ws p = ⊎_elim
     (λ (inside : p < 8 * length ws).
     let whole : 8 * (p / 8) + p % 8 ≡ p = omega arith in

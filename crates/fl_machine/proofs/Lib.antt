@@ -18,3 +18,4 @@ pub mod Joined
 pub mod Parts
 pub mod NumberCalls
 pub mod Alone
+pub mod Texts

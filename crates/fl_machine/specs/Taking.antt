@@ -3,7 +3,7 @@ use Rattle.std.specs.Prelude.{◌≡◌, ◌≢◌, ℕ, suc, ◌+◌, ◌-◌, 
 use Rattle.std.specs.Prelude.{◌++◌, flat_map, take, drop, length, slice_get, slice_index, slice_index_or}
 use Rattle.std.specs.Prelude.{slice_set, Some}
 use Rattle.fl_stub.specs.declared.op.Op.{Op}
-use Rattle.fl_stub.specs.declared.op.Op.TheVariants.{Back}
+use Rattle.fl_stub.specs.declared.op.Op.TheVariants.{Back, ReadText}
 use Rattle.fl_stub.specs.declared.mark.ByteKind.{ByteKind}
 use Rattle.fl_stub.specs.declared.mark.ByteKind.TheVariants.{Length}
 use Rattle.fl_machine.specs.declared.cursor.Loop.{Loop}
@@ -184,3 +184,27 @@ run_at c left count phase = record c {
   count = count;
   phase = phase;
 }
+
+-- no byte is 0
+abbrev pub AreSet : List ℕ → Type 0
+AreSet [] = Unit {0}
+AreSet (x ∷ bytes) = (0 < x) × AreSet bytes
+
+-- the innermost loop is over one byte of a text alone, which is the one to be taken
+pub record IsTextRun (ops : List Op) (c : RecvCursor) : Type 0 where
+  pub deep : 0 < c.depth
+  pub idle : c.have ≡ 0
+  pub start : (inner_loop c).start ≡ c.place
+  pub text : slice_get ops c.place ≡ Some ReadText
+  pub back : slice_get ops (c.place + 1) ≡ Some Back
+
+-- as many turns later as a fragment has bytes
+abbrev pub after_fragment : RecvCursor → RecvCursor
+after_fragment c = record c { loops = slice_set c.loops (c.depth - 1) (turned (inner_loop c) 56) }
+
+-- the bytes of a fragment's words are taken, and others follow
+abbrev pub PassesText : List Op → RecvCursor → List ℕ → RecvCursor → Type 0
+PassesText ops c words d = (taken bytes : List ℕ)
+    → Stands ops taken c bytes
+    → Stands ops (taken ++ words_bytes words) d (bytes ++ words_bytes words)
+    × BeginsPayload (block_of ops) (bytes ++ words_bytes words)

@@ -1,19 +1,19 @@
 //! Where a run of receive code stands, and how it takes bytes.
 
 ghost use Rattle.std.specs.Prelude.{◌≡◌, ◌≢◌, ◌+◌, ◌-◌, ◌*◌, ◌%◌, ◌<◌, ◌≤◌, ◌^◌, ◌++◌, ℕ, true, false, List, [], ◌∷◌};
-ghost use Rattle.std.specs.Prelude.{take, drop, length, slice_get, slice_set, Some, IfOk, IfErr, IfSome, IfNone, IsTrue};
+ghost use Rattle.std.specs.Prelude.{take, drop, length, slice_get, Some, IfOk, IfErr, IfSome, IfNone, IsTrue};
 ghost use Rattle.fl_stub.specs.declared.op.Column.TheVariants.{Receive as receive};
 ghost use Rattle.fl_stub.specs.declared.op.Op.TheVariants.{Times as times_op, Back as back_op, Done as done_op};
 ghost use Rattle.fl_stub.specs.declared.mark.ByteKind.TheVariants.{Length as length_mark, Zero as zero_mark};
 ghost use Rattle.fl_stub.specs.Structure.{IsCode, is_width};
 ghost use Rattle.fl_stub.specs.Frames.{block_of};
-ghost use Rattle.fl_stub.specs.Meaning.{number_bytes, gap_to_8};
+ghost use Rattle.fl_stub.specs.Meaning.{number_bytes};
 ghost use Rattle.fl_stub.specs.Streams.{LeavesPayloads};
 ghost use Rattle.fl_stub.specs.Rests.{no_more, is_taken, taken_field, zeros_field, told};
 ghost use Rattle.fl_machine.specs.declared.intake.Fed.TheVariants.{Part as part, Whole as whole};
 ghost use Rattle.fl_machine.specs.Cursors.{loops_of};
 ghost use Rattle.fl_machine.specs.Taking.{Stands, TakesPart, TakesWhole, TakesWrong, IsFedBy, bytes_left, IsTaking, IsAtField, HasField};
-ghost use Rattle.fl_machine.specs.Taking.{Passes, PassesOne, StepsOver, Grows, AreZeros, FirstSet, IsRunOf, AreWithin, inner_loop, turned};
+ghost use Rattle.fl_machine.specs.Taking.{Passes, PassesOne, StepsOver, Grows, AreZeros, FirstSet, IsRunOf, AreWithin, inner_loop};
 ghost use Rattle.fl_machine.specs.Taking.{after_bytes, words_bytes, field_view, rest_of, HasRoom};
 
 use crate::cursor::{Loop, behind, is_op};

@@ -10,6 +10,7 @@
 //! - `send.rt`: `SendRun`, and a call's first fragment without one
 //! - `intake.rt`: where a run of receive code stands, and how it takes bytes
 //! - `straight.rt`: numbers that lie in one fragment, taken outside loops: those of a call of one fragment, and those that others begin with
+//! - `text.rt`: a fragment whose bytes are all of one text, which goes on
 //! - `recv.rt`: `RecvRun`
 //! - `reassembly.rt`: what is taken of a call under way: its fragments are kept, and read once they are all there
 //! - `reassemblies.rt`: `Reassemblies`, calls put together at many places
@@ -26,6 +27,7 @@ mod recv;
 mod rooms;
 mod send;
 mod straight;
+mod text;
 
 pub use cursor::{Loop, SendCursor};
 pub use intake::{Fed, RecvCursor};

@@ -29,7 +29,8 @@ pub(crate) struct ReassemblyPlaces {
     numbers: [u64; 56],
     // Where calls of several fragments are read.
     reading: ReadingRoom,
-    // The memory of a call that was done with: the next call that isn't of one number stands in it.
+    // The memory of a call that was done with: the next call that is read as a list takes it; it is given up where that call is held
+    // as its number.
     spare: Option<Box<Call>>,
     // For contracts: where a call of one number is made. It is there once there is a place.
     number: Option<NumberCall>,
@@ -117,8 +118,8 @@ impl ReassemblyPlaces {
         )
     }
 
-    // Takes a fragment of the call under way. Out of line, so that a call of one fragment has nothing of it.
-    #[inline(never)]
+    // Takes a fragment of the call under way.
+    #[inline(always)]
     fn take_next(&mut self, place: usize, frag: &Frag) -> Result<Taken, TakeFault>
         requires are { ArePlaces self.old }
         requires under_way { IsInside self.old place }
@@ -257,7 +258,8 @@ impl Reassemblies {
         self.stored.take(place, frag)
     }
 
-    /// Takes back the memory of a call that was done with: the next call that isn't of one number stands in it. Its values are dropped then.
+    /// Takes back the memory of a call that was done with: the next call that is read as a list takes it, and its values are dropped
+    /// then. Where that call is held as its number, the memory is given up.
     #[inline(always)]
     pub fn give_back(&mut self, call: Box<Call>)
         ensures same { self.new ≡ self.old }

@@ -13,7 +13,9 @@ ghost use Rattle.fl_machine.specs.Reassembling.{TheReassembly, AreWhole, Takes, 
 ghost use Rattle.fl_machine.specs.Reassembling.{new_reassembly, parts_under, reassembly_on};
 
 use crate::intake::Fed;
-use crate::recv::{PartialCall, TapedCall, begin, begin_alone, look_on, whole, whole_number};
+use crate::recv::{
+    PartialCall, TapedCall, begin, begin_alone, look_on, pass_text, whole, whole_number,
+};
 use fl_base::Frag;
 use fl_compact_calls::{CompactCall, NumberCall};
 use fl_compile::Program;
@@ -63,11 +65,11 @@ pub(crate) struct Assembly {
     pub(crate) begun: Option<PartialCall>,
 }
 
-// Whether the call that a fragment begins has no more arguments than a fragment has words.
+// Whether the call that a fragment begins has at most eight arguments, for whose numbers `take_straight` has places.
 #[inline(always)]
 pub(crate) fn has_few_args(program: &Program, frag: &Frag) -> bool {
     match program.interface().messages.get(usize::from(frag.msg().0)) {
-        Some(message) => message.args.len() < 8,
+        Some(message) => message.args.len() <= 8,
         None => false,
     }
 }
@@ -92,7 +94,7 @@ fn list_of(alloc: Global, room: &mut Option<Box<Call>>) -> Vec<Value> {
     }
 }
 
-// The call of one fragment, whose numbers are these. Out of line, so that a call of one number has nothing of it.
+// The call of one fragment, whose numbers are these. Out of line, so that a number that is told by itself has nothing of it.
 #[inline(never)]
 pub(crate) fn tell(
     alloc: Global,
@@ -180,6 +182,7 @@ fn keep(
 #[inline(always)]
 fn read(
     alloc: Global,
+    list: Vec<Value>,
     program: &Program,
     frags: &[Frag],
     reading: &mut ReadingRoom,
@@ -192,7 +195,7 @@ fn read(
         unreachable!();
     };
     let msg = first.msg();
-    call_of_frags(alloc, program, msg, frags, reading)
+    call_of_frags(alloc, list, program, msg, frags, reading)
 }
 
 // Takes the last fragment of the call under way.
@@ -216,8 +219,10 @@ fn take_last(
     let _plan = program.plan();
     let count = begun.fed();
     room[count] = frag.bare();
-    match read(alloc, program, &room[..count + 1], reading) {
-        Ok(call) => told(alloc, mem::replace(spare, None), call),
+    let mut memory = mem::replace(spare, None);
+    let list = list_of(alloc, &mut memory);
+    match read(alloc, list, program, &room[..count + 1], reading) {
+        Ok(call) => told(alloc, memory, call),
         Err(_) => Err(TakeFault::Memory),
     }
 }
@@ -259,9 +264,9 @@ fn take_begun(
 }
 
 // Takes a fragment of the call under way, where the call lies: behind its last fragment, or one at fault, it
-// stands as it stood.
-#[inline(always)]
-fn take_under(
+// stands as it stood. Out of line, so that a fragment that is only kept has nothing of it.
+#[inline(never)]
+fn take_slowly(
     alloc: Global,
     program: &Program,
     begun: &mut PartialCall,
@@ -291,6 +296,32 @@ fn take_under(
             Err(TakeFault::Wire(fault))
         }
     }
+}
+
+// Takes a fragment of the call under way, where the call lies: one whose bytes are all of one text, which goes on, is only kept.
+#[inline(always)]
+fn take_under(
+    alloc: Global,
+    program: &Program,
+    begun: &mut PartialCall,
+    numbers: &mut [u64; 56],
+    room: &mut [Frag],
+    reading: &mut ReadingRoom,
+    spare: &mut Option<Box<Call>>,
+    frag: &Frag,
+) -> Result<Taken, TakeFault>
+    requires under_way { IsUnderWay (program_of program.now) room.old (Some begun.old) }
+    requires holds { HoldsParts (program_of program.now).plan (program_of program.now).interface
+        (length room.old) }
+    ensures under_way { IsUnderWay (program_of program.now) room.new (Some begun.new) }
+    ensures takes { Takes (reassembly_on program.now room.old (Some begun.old)) frag.now result
+        (reassembly_on program.now room.new (Some begun.new)) }
+{
+    let _plan = program.plan();
+    if pass_text(program, begun, frag) {
+        return keep(program, begun, room, frag);
+    }
+    take_slowly(alloc, program, begun, numbers, room, reading, spare, frag)
 }
 
 // Takes a fragment of the call under way.

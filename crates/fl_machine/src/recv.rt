@@ -1,6 +1,6 @@
 //! Runs of receive code.
 
-ghost use Rattle.std.specs.Prelude.{◌≡◌, ◌≢◌, ◌==◌, ◌⊎◌, ◌+◌, ◌≤◌, ◌++◌, ◌∷◌, [], true, take, length, List, None, IfOk, IfErr, IfSome};
+ghost use Rattle.std.specs.Prelude.{◌≡◌, ◌≢◌, ◌==◌, ◌⊎◌, ◌+◌, ◌≤◌, ◌++◌, ◌∷◌, [], true, false, take, length, List, None, IfOk, IfErr, IfSome, IsTrue};
 ghost use Rattle.fl_base.specs.Control.{message_of, control_word, body};
 ghost use Rattle.fl_value_data.specs.Value.{call_of};
 ghost use Rattle.fl_value_data.specs.Fits.{fits_of};
@@ -240,6 +240,25 @@ impl PartialCall {
             Err(mark) => Err(fault_of(mark)),
         }
     }
+
+    // As `look`, where the fragment's bytes are all of one text, which goes on; whether it is so. Else nothing changes.
+    #[inline(always)]
+    fn pass(&mut self, program: &Program, frag: &Frag) -> bool
+        requires kept { (parts : List Frag) × IsKeptIn (program_of program.now) parts self.old }
+        requires control { body frag.now.control ≡ control_word (self.old.fed == 0) self.old.msg.0 0 }
+        ensures passes { IsTrue result → GoesOn (program_of program.now) self.old frag.now self.new }
+        ensures stays { result ≡ false → self.new ≡ self.old }
+    {
+        is_line(frag);
+        let Some(code) = program.receive_code(self.msg) else {
+            unreachable!();
+        };
+        if !self.intake.pass_text(code.ops(), &frag.words) {
+            return false;
+        }
+        self.fed += 1;
+        true
+    }
 }
 
 // Takes a fragment where a call is to begin: it is the first of this one.
@@ -359,6 +378,21 @@ pub(crate) fn look_on(
         return Err(fault);
     }
     begun.look(program, numbers, frag)
+}
+
+// As `look_on`, where the fragment's bytes are all of one text, which goes on; whether it is so. Else nothing changes.
+#[inline(always)]
+pub(crate) fn pass_text(program: &Program, begun: &mut PartialCall, frag: &Frag) -> bool
+    requires kept { (parts : List Frag) × IsKeptIn (program_of program.now) parts begun.old }
+    ensures passes { IsTrue result → GoesOn (program_of program.now) begun.old frag.now begun.new }
+    ensures stays { result ≡ false → begun.new ≡ begun.old }
+{
+    let _interface = program.interface();
+    let msg = begun.msg;
+    if let Some(_) = follow_fault(msg, frag) {
+        return false;
+    }
+    begun.pass(program, frag)
 }
 
 // The call of a whole tape. In line, so that the call isn't read back just after its parts were stored.

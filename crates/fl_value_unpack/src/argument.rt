@@ -1,6 +1,6 @@
 //! Arguments on a packed tape, in the plan's order.
 
-ghost use Rattle.std.specs.Prelude.{◌≡◌, ◌+◌, ◌<◌, ◌≤◌, ◌^◌, ℕ, map, take, drop, length, vec_len, IfOk};
+ghost use Rattle.std.specs.Prelude.{◌≡◌, ◌+◌, ◌<◌, ◌≤◌, ◌^◌, ℕ, [], map, take, drop, length, vec_len, IfOk};
 ghost use Rattle.std.specs.Vec.{vec_capacity};
 ghost use Rattle.fl_interface.specs.Interface.{text, sized, type_of, arg_type_of};
 ghost use Rattle.fl_value_data.specs.Value.{string, elements, data_of, datum_of};
@@ -69,11 +69,25 @@ fn read_argument<'a>(
     }
 }
 
-// The uint64 arguments that come first, as many as there are, and what follows them: in room for all arguments. They are the most
-// common, and have the least rank, so that the others alone tell whether the plan keeps the declared order.
+// No values, with room for so many, in memory that was used before.
+#[inline(always)]
+fn emptied(used: Vec<Value>, count: usize) -> Result<Vec<Value>, AllocError>
+    ensures none { IfOk result (λ values. values.items ≡ []) }
+    ensures length { IfOk result (λ values. vec_len values ≡ 0) }
+    ensures room { IfOk result (λ values. count ≤ vec_capacity values) }
+{
+    let mut values = used;
+    values.clear();
+    values.reserve(count)?;
+    Ok(values)
+}
+
+// The uint64 arguments that come first, as many as there are, and what follows them: in room for all arguments, in memory that was
+// used before. They are the most common, and have the least rank, so that the others alone tell whether the plan keeps the declared
+// order.
 #[inline(always)]
 fn read_wides<'a>(
-    alloc: Global,
+    room: Vec<Value>,
     tape: &'a [u8],
     arguments: &[ArgType],
 ) -> Result<(Vec<Value>, &'a [u8]), AllocError>
@@ -85,7 +99,7 @@ fn read_wides<'a>(
     ensures only { IfOk result (λ r. OnlyOne (InTurn PackedArgumentAt (arg_types (take (vec_len r.0) arguments.now)) tape.now)
         (map datum_of r.0.items) r.1.now) }
 {
-    let mut values = Vec::with_capacity(alloc, arguments.len())?;
+    let mut values = emptied(room, arguments.len())?;
     let mut rest = tape;
     while let Some(argument) = wide_at(arguments, values.len()) {
         let (number, after) = read_one(rest, Scalar::Uint64);
@@ -177,10 +191,12 @@ fn read_ranks<'a>(
     Ok((values, rest))
 }
 
-// All arguments in declared order, from where they stand in the plan's, and what follows them.
+// All arguments in declared order, from where they stand in the plan's, and what follows them: in the memory of `room`, where the
+// plan's order is the declared one.
 #[inline(always)]
 pub(crate) fn read_arguments<'a>(
     alloc: Global,
+    room: Vec<Value>,
     tape: &'a [u8],
     plan: PlanNo,
     arguments: &[ArgType],
@@ -189,7 +205,7 @@ pub(crate) fn read_arguments<'a>(
     ensures only { IfOk result (λ r. OnlyOne (InTurn PackedArgumentAt (planned_types plan (arg_types arguments.now)) tape.now)
         (values_of (arranged kind plan (beside arguments.now r.0.items))) r.1.now) }
 {
-    let (values, rest) = read_wides(alloc, tape, arguments)?;
+    let (values, rest) = read_wides(room, tape, arguments)?;
     let others = &arguments[values.len()..];
     let kept = keeps_order(plan, others);
     if kept {

@@ -13,14 +13,14 @@ use Rattle.fl_value_unpack.proofs.argument.read_wides.Goals as goal
 
 pub loop-argument-init : goal.loop-argument-init
 loop-argument-init c =
-    let none : vec_len c.in_ok-values.values ≡ 0 = c.in_ok-values.ensures.len in
+    let none : vec_len c.in_ok-values.values ≡ 0 = c.in_ok-values.ensures.length in
     record {
-      few = ap length c.in_ok-values.ensures.items ∙ sym none;
+      few = ap length c.in_ok-values.ensures.none ∙ sym none;
       inside = omega (arith, none);
-      room = c.in_ok-values.ensures.capacity;
+      room = c.in_ok-values.ensures.room;
       others = ap (λ (n : ℕ). rising (λ (t : TheArgType). t) 0 (map arg_type_of (drop n c.args.arguments.now))) none;
       only = subst (λ (n : ℕ). OnlyOne (InTurn PackedArgumentAt (map arg_type_of (take n c.args.arguments.now)) c.args.tape.now) (map datum_of c.in_ok-values.values.items) c.args.tape.now) (sym none)
-          (start_only PackedArgumentAt c.args.tape.now c.in_ok-values.values.items c.in_ok-values.ensures.items);
+          (start_only PackedArgumentAt c.args.tape.now c.in_ok-values.values.items c.in_ok-values.ensures.none);
     }
 
 pub push_reserved-requires : goal.push_reserved-requires
