@@ -1,13 +1,14 @@
--- The call of a tape of one number that is its argument's value.
-use Rattle.std.proofs.Common.{ℕ, pos, negsuc, ◌≡◌, ◌<◌, ◌^◌, ◌%◌, Bool, true, false, List, [], ◌∷◌, ◌++◌, refl, ◌∙◌, ap, arith}
+-- The call of a tape of one number that is its argument's value, and the tape of a call of one number from 0 on.
+use Rattle.std.proofs.Common.{ℕ, zero, suc, pos, negsuc, ◌≡◌, ◌<◌, ◌^◌, ◌%◌, Bool, true, false, List, [], ◌∷◌, ◌++◌, refl, ◌∙◌, ap, arith}
 use Rattle.std.specs.Prelude.{Option, Some, None, slice_get}
-use Rattle.std.specs.List.{zip, flat_map}
+use Rattle.std.specs.List.{zip, flat_map, list_all}
 use Rattle.std.specs.Cmp.{first_so, second_so}
 use Rattle.std.proofs.Math.Nat.{mod-eq_of_lt}
-use Rattle.std.proofs.lemmas.Bool.{false≢true, ltb-true}
+use Rattle.std.proofs.lemmas.Bool.{false≢true, leb-true, ltb-true}
 use Rattle.fl_interface.specs.declared.interface.Scalar.{Scalar}
 use Rattle.fl_interface.specs.declared.interface.Scalar.TheVariants.{Uint8, Int8, Bool as BoolType, Char, Uint16, Int16, Uint32, Int32, Iref, Uint64, Int64, Uintptr, Intptr, Size, Errval}
-use Rattle.fl_interface.specs.Interface.{scalar, enumeration, structure, array, TheArgType, fixed, text, sized, TheMessage, TheInterface}
+use Rattle.fl_interface.specs.Interface.{TheType, scalar, enumeration, structure, array, TheArgType, fixed, text, sized, TheMessage, TheInterface}
+use Rattle.fl_interface.specs.Counts.{words_fit, argument_words_fit, messages_words_fit, interface_words_fit}
 use Rattle.fl_value_data.specs.declared.value.PlanNo.{PlanNo}
 use Rattle.fl_value_data.specs.declared.value.PlanNo.TheVariants.{One, Two}
 use Rattle.fl_value_data.specs.Value.{Datum, number, string, elements, fields, TheCall}
@@ -27,7 +28,7 @@ plain_so s true e h = absurd (cc)
 plain_so s false e h = e
 
 -- alone, an argument stands first in each plan's order
-alone : (plan : PlanNo) (s : Scalar) (d : Datum) → arranged kind plan ((fixed (scalar s), d) ∷ []) ≡ (fixed (scalar s), d) ∷ []
+pub alone : (plan : PlanNo) (s : Scalar) (d : Datum) → arranged kind plan ((fixed (scalar s), d) ∷ []) ≡ (fixed (scalar s), d) ∷ []
 alone One s d = refl
 alone Two Uint8 d = refl
 alone Two Int8 d = refl
@@ -95,3 +96,47 @@ pub of_number : (plan : PlanNo) (i : TheInterface) (c : TheCall) → is_plain_me
 of_number plan i c p h =
     let x = of_message plan (slice_get i.messages c.msg) c.args p h in
     record { number_is = x.0; args = x.1; tape = x.2 }
+
+-- ---- a fitting call of one number from 0 on, whatever its message
+
+-- an enum's value stands alone, too
+pub alone_enum : (plan : PlanNo) (m : ℕ) (d : Datum) → arranged kind plan ((fixed (enumeration m), d) ∷ []) ≡ (fixed (enumeration m), d) ∷ []
+alone_enum One m d = refl
+alone_enum Two m d = refl
+
+-- a number from 0 on that is of a type is all of its bits
+own_bits : (t : TheType) (n : ℕ) → words_fit t ≡ true → has_type t (number (pos n)) ≡ true → value_tape t (number (pos n)) ≡ n ∷ []
+own_bits (scalar s) n w h =
+    let small : n < least_above s = ltb-true n (least_above s) h in
+    ap (λ (k : ℕ). k ∷ []) (mod-eq_of_lt (omega (arith, small, scalar_room s)))
+own_bits (enumeration m) n w h =
+    let small : n < m = ltb-true n m h in
+    ap (λ (k : ℕ). k ∷ []) (mod-eq_of_lt (omega (arith, small, leb-true m (2 ^ 32) w)))
+own_bits (structure ts) n w h = absurd (false≢true h)
+own_bits (array m t) n w h = absurd (false≢true h)
+
+one_of_arguments : (plan : PlanNo) (ts : List TheArgType) (n : ℕ) → list_all argument_words_fit ts ≡ true → are_arguments ts (one_number n) ≡ true
+    → flat_map tape_of_argument (arranged kind plan (zip ts (one_number n))) ≡ n ∷ []
+one_of_arguments plan [] n w h = absurd (false≢true h)
+one_of_arguments plan (t ∷ u ∷ ts) n w h = absurd (false≢true (second_so (is_argument t (number (pos n))) _ h))
+one_of_arguments plan (fixed (scalar s) ∷ []) n w h =
+    ap (flat_map tape_of_argument) (alone plan s (number (pos n)))
+    ∙ ap (λ (l : List ℕ). l ++ []) (own_bits (scalar s) n refl (first_so (has_type (scalar s) (number (pos n))) true h))
+one_of_arguments plan (fixed (enumeration m) ∷ []) n w h =
+    ap (flat_map tape_of_argument) (alone_enum plan m (number (pos n)))
+    ∙ ap (λ (l : List ℕ). l ++ []) (own_bits (enumeration m) n (first_so (words_fit (enumeration m)) true w) (first_so (has_type (enumeration m) (number (pos n))) true h))
+one_of_arguments plan (fixed (structure ts) ∷ []) n w h = absurd (false≢true h)
+one_of_arguments plan (fixed (array m t) ∷ []) n w h = absurd (false≢true h)
+one_of_arguments plan (text max ∷ []) n w h = absurd (false≢true h)
+one_of_arguments plan (sized max t ∷ []) n w h = absurd (false≢true h)
+
+one_of_messages : (plan : PlanNo) (ms : List TheMessage) (k n : ℕ) → messages_words_fit ms ≡ true → fit_message (slice_get ms k) (one_number n) ≡ true
+    → flat_map tape_of_argument (arranged kind plan (zip (types_of (slice_get ms k)) (one_number n))) ≡ n ∷ []
+one_of_messages plan [] k n w h = absurd (false≢true h)
+one_of_messages plan (m ∷ ms) zero n w h = one_of_arguments plan m.args n (first_so (list_all argument_words_fit m.args) _ w) h
+one_of_messages plan (m ∷ ms) (suc k) n w h = one_of_messages plan ms k n (second_so (list_all argument_words_fit m.args) _ w) h
+
+-- its tape is the number
+pub tape_of_one : (plan : PlanNo) (i : TheInterface) (msg n : ℕ) → interface_words_fit i ≡ true → fits_of i (record { msg = msg; args = one_number n }) ≡ true
+    → tape_of plan i (record { msg = msg; args = one_number n }) ≡ n ∷ []
+tape_of_one plan i msg n w h = one_of_messages plan i.messages msg n w h

@@ -41,11 +41,11 @@ impl Model for CompactCall {
 }
 
 impl CompactCall {
-    /// A call, whose arguments are taken out of it, but where they are one number of 0 to 2^64 - 1. Takes no memory for such a
-    /// one.
+    /// A call. Where its arguments are one number of 0 to 2^64 - 1 they stay in it, and no memory is taken; else they are taken
+    /// out of it.
     ///
     /// # Errors
-    /// Out of memory. The arguments are gone then.
+    /// Out of memory. The arguments may be gone then.
     #[inline(always)]
     pub fn take(alloc: Global, call: &mut Call) -> Result<CompactCall, AllocError>
         ensures taken { IfOk result (λ c. c ≡ call.old) }
@@ -55,7 +55,7 @@ impl CompactCall {
         Ok(CompactCall { held, was })
     }
 
-    /// A call. Takes no memory for one of one number.
+    /// A call. Takes no memory for one of one number of 0 to 2^64 - 1.
     ///
     /// # Errors
     /// Out of memory.
@@ -68,7 +68,7 @@ impl CompactCall {
         Ok(CompactCall { held, was })
     }
 
-    /// A call of one number. Takes no memory.
+    /// A call of one number. Takes no memory. What stands in `spare` is for contracts alone.
     #[inline(always)]
     pub fn of_number(spare: &mut NumberCall, msg: MsgNo, number: u64) -> CompactCall
         ensures call { call_of result ≡ record { msg = msg.0; args = one_number number } }
@@ -78,7 +78,7 @@ impl CompactCall {
         CompactCall { held, was }
     }
 
-    /// As [`CompactCall::keep`], in memory that was used before, if there is some.
+    /// As [`CompactCall::keep`], in memory that was used before, if there is some. That memory is gone where the call wants none.
     ///
     /// # Errors
     /// Out of memory.
@@ -95,7 +95,8 @@ impl CompactCall {
         Ok(CompactCall { held, was })
     }
 
-    /// The call takes the place of one. Gives the memory of that one, if it had some. Takes none.
+    /// The call takes the place of one, and takes no memory. Gives the memory of that one: one of one number of 0 to 2^64 - 1 has
+    /// none.
     #[inline(always)]
     pub fn put_in(self, place: &mut CompactCall) -> Option<Box<Call>>
         ensures put { place.new ≡ self }
@@ -112,7 +113,7 @@ impl CompactCall {
         self.held.seen()
     }
 
-    /// Its number, where that is held as its one argument.
+    /// Its number, where its one argument is a number of 0 to 2^64 - 1.
     #[inline(always)]
     pub fn number(&self) -> Option<u64>
         ensures number { IfSome result (λ n. (call_of self.now).args ≡ one_number n) }

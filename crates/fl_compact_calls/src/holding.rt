@@ -16,18 +16,18 @@ use std::alloc::{AllocError, Global};
 /// What is held of a call.
 #[derive(Debug, Drop)]
 pub(crate) enum HeldCall {
-    /// A call of one number.
+    /// A call of one number from 0 to 2^64 - 1.
     Number(MsgNo, u64),
-    /// Any other call.
+    /// Any other call, also one of a negative number.
     Other(Box<Call>),
 }
 
 /// A call as it is held.
 #[derive(Debug)]
 pub enum SeenCall<'a> {
-    /// One of one number: its message, and the number.
+    /// One of one number from 0 to 2^64 - 1: its message, and the number.
     Number(MsgNo, u64),
-    /// Any other call.
+    /// Any other call, also one of a negative number.
     Other(&'a Call),
 }
 
@@ -55,7 +55,7 @@ fn take_all(alloc: Global, call: &mut Call) -> Result<HeldCall, AllocError>
 }
 
 impl HeldCall {
-    // What is held of a call, whose arguments are taken out of it.
+    // What is held of a call. Its arguments are taken out of it, but those of a call of one number, which stay.
     #[inline(always)]
     pub(crate) fn take(alloc: Global, call: &mut Call) -> Result<HeldCall, AllocError>
         ensures taken { IfOk result (λ h. held_in h ≡ call_of call.old) }
@@ -77,7 +77,22 @@ impl HeldCall {
         }
     }
 
-    // What is held of a call, in memory that was used before.
+    // A call in memory that was used before, if there is some.
+    #[inline(always)]
+    fn box_in(alloc: Global, room: Option<Box<Call>>, call: Call) -> Result<HeldCall, AllocError>
+        ensures boxed { IfOk result (λ h. held_in h ≡ call_of call) }
+    {
+        match room {
+            None => box_call(alloc, call),
+            Some(room) => {
+                let mut room = room;
+                *room = call;
+                Ok(HeldCall::Other(room))
+            }
+        }
+    }
+
+    // What is held of a call, in memory that was used before, if it wants some. That memory is gone where it wants none.
     #[inline(always)]
     pub(crate) fn keep_in(
         alloc: Global,
@@ -86,13 +101,9 @@ impl HeldCall {
     ) -> Result<HeldCall, AllocError>
         ensures kept { IfOk result (λ h. held_in h ≡ call_of call) }
     {
-        match room {
-            None => HeldCall::keep(alloc, call),
-            Some(room) => {
-                let mut room = room;
-                *room = call;
-                Ok(HeldCall::Other(room))
-            }
+        match one_number(&call.args) {
+            Some(number) => Ok(HeldCall::Number(call.msg, number)),
+            None => HeldCall::box_in(alloc, room, call),
         }
     }
 
@@ -116,7 +127,7 @@ impl HeldCall {
         }
     }
 
-    // Its number, if it is one of one number.
+    // Its number, if it is held as one of one number.
     #[inline(always)]
     pub(crate) fn number(&self) -> Option<u64>
         ensures number { IfSome result (λ n. (held_in self.now).args ≡ one_number n) }

@@ -46,7 +46,8 @@ impl Core {
         self.board.call_compact(e, call)
     }
 
-    /// Takes back the memory of a call that was done with: the next call that isn't of one number stands in it. Its values are dropped then.
+    /// Takes back the memory of a call that was done with: the next call that is read as a list takes it, and its values are dropped
+    /// then. Where that call is held as its number, the memory is given up.
     #[inline(always)]
     pub fn give_back(&mut self, call: Box<Call>)
         ensures same { self.new ≡ self.old }

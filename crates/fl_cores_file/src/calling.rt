@@ -157,7 +157,7 @@ impl<'a> Draft<'a> {
         self.jobs.push_reserved(Job::Call { end, call });
     }
 
-    // The same of a call whose arguments are taken out of the list that they were read in.
+    // The same of a call whose arguments are taken out of the list that they were read in, but where they are one number.
     #[inline(always)]
     fn add_call(&mut self, end: EndId, call: &mut Call) -> Result<(), CoresLineFault>
         requires room { vec_len self.old.jobs < vec_capacity self.old.jobs }
@@ -169,7 +169,7 @@ impl<'a> Draft<'a> {
         Ok(())
     }
 
-    // Where a call is accepted, its arguments are taken out of the list that it was read in. Room for the job is made first, so that
+    // Where a call is accepted, its arguments are taken out of the list that it was read in, but where they are one number. Room for the job is made first, so that
     // the job is made in its place.
     pub(crate) fn call(&mut self, end: EndId, call: &mut Call) -> Result<(), CoresLineFault>
         ensures comes { Comes result (draft_of self.new) (makes_call end (call_of call.old) (draft_of self.old)) }

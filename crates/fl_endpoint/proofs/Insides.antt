@@ -21,7 +21,7 @@ use Rattle.fl_endpoint.specs.declared.rules.ReplyRules.{ReplyRules}
 use Rattle.fl_endpoint.specs.declared.end.End.TheInside.{Inside}
 use Rattle.fl_endpoint.specs.Stored.{queued_frags, sending_frags, count_in, outgoing_of, IsOwn, IsQueued, AreQueued, Queues, QueuesReply, IsInTransmission, IsOutgoing}
 use Rattle.fl_endpoint.specs.Inside.{circuit_of, program_in, end_of, IsEnd}
-use Rattle.fl_endpoint.proofs.Sounds.{has_room, sound_exchanged}
+use Rattle.fl_endpoint.proofs.Sounds.{Fits, has_room, idle_end, sound_call, sound_exchanged}
 
 -- ---- the calls that are to be sent
 
@@ -135,6 +135,24 @@ kept_is_end e out outgoing view sound = record {
   outgoing = outgoing;
   sound = subst (λ (s : TheEnd). Sound s) (sym view) sound;
 }
+
+-- a bound end that was idle, with a fitting call in transmission
+pub called_is_end : (e : Inside) (out : Outgoing) (call : QueuedCall) (s : TheEnd) (c : TheCall) (circuit : ℕ) → end_of e ≡ s → Sound (end_of e)
+    → s.circuit ≡ Some circuit → s.outgoing.unwritten ≡ [] → Fits s c → Queues (program_in e) c call → IsOutgoing (program_in e) out
+    → outgoing_of (program_in e) circuit out ≡ queued (outgoing_of (program_in e) circuit e.outgoing) (queued_frags (program_in e) circuit call)
+    → IsEnd (end_with e out)
+called_is_end e out call s c circuit view old bound_as idle_as fits_as queues outgoing is =
+    let bound : (end_of e).circuit ≡ Some circuit = subst (λ (t : TheEnd). t.circuit ≡ Some circuit) (sym view) bound_as in
+    let idle : (end_of e).outgoing.unwritten ≡ [] = subst (λ (t : TheEnd). t.outgoing.unwritten ≡ []) (sym view) idle_as in
+    let fits : Fits (end_of e) c = subst (λ (t : TheEnd). Fits t c) (sym view) fits_as in
+    let nothing = idle_end (end_of e) old idle in
+    let none : length (end_of e).outgoing.waiting ≡ 0 = ap (λ (o : TheOutgoing). length o.waiting) nothing in
+    let some : IsSome (end_of e).circuit = subst (λ (o : Option ℕ). IsSome o) (sym bound) (search rules) in
+    let sound = sound_call (end_of e) c old some fits (omega (arith, none)) in
+    record {
+      outgoing = outgoing;
+      sound = subst (λ (t : TheEnd). Sound t) (sym (queued_end e out call c circuit bound queues is)) sound;
+    }
 
 -- ---- calls handled
 

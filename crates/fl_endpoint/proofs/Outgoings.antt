@@ -16,8 +16,7 @@ use Rattle.fl_value_data.specs.Fits.{fits_of, fit_message}
 use Rattle.fl_value_data.specs.Plan.{arranged}
 use Rattle.fl_value_data.specs.Tape.{kind, tape_of_argument, tape_of}
 use Rattle.fl_compact_calls.specs.Held.{one_number}
-use Rattle.fl_compact_calls.specs.Plain.{is_plain_message}
-use Rattle.fl_compact_calls.proofs.Plain.{OfNumber, of_number}
+use Rattle.fl_compact_calls.proofs.Plain.{tape_of_one}
 use Rattle.fl_value_data.specs.declared.value.PlanNo.{PlanNo}
 use Rattle.fl_layout.specs.Leaves.{Leaf, arguments_onto, leaves}
 use Rattle.fl_layout.specs.Places.{size, count, count_for}
@@ -176,18 +175,12 @@ queues_tape p c tape call law within words fits one msg body tape_is =
 
 -- one by its number
 pub queues_number : (p : TheProgram) (msg n : ℕ) (call : QueuedCall) → SendsFragments → is_within_limits p.interface ≡ true → interface_words_fit p.interface ≡ true
-    → is_plain_message (slice_get p.interface.messages msg) ≡ true → fits_of p.interface (record { msg = msg; args = one_number n }) ≡ true → call.msg.0 ≡ msg → call.body ≡ Number n
+    → fits_of p.interface (record { msg = msg; args = one_number n }) ≡ true → call.msg.0 ≡ msg → call.body ≡ Number n
     → Queues p (record { msg = msg; args = one_number n }) call
-queues_number p msg n call law within words plain fits msg_is body =
+queues_number p msg n call law within words fits msg_is body =
     let c : TheCall = record { msg = msg; args = one_number n } in
-    let of : OfNumber p.plan p.interface c = of_number p.plan p.interface c plain fits in
-    let same : n ≡ of.number_is = one_same n of.number_is of.args in
-    let tape : n ∷ [] ≡ tape_of p.plan p.interface c = ap (λ (k : ℕ). k ∷ []) same ∙ sym of.tape in
-    let frags = taped_frags p c (n ∷ []) law within words fits tape in
-    queues_body p c call (Number n) msg_is body (taped_short p c (n ∷ []) fits (short_number p.plan p.interface c plain fits) frags) frags
-  where
-    one_same : (n m : ℕ) → one_number n ≡ one_number m → n ≡ m
-    one_same n m e = cc
+    let frags = taped_frags p c (n ∷ []) law within words fits (sym (tape_of_one p.plan p.interface msg n words fits)) in
+    queues_body p c call (Number n) msg_is body (taped_short p c (n ∷ []) fits (short_number p.plan p.interface msg n fits) frags) frags
 
 -- one by its payload
 pub queues_payload : (p : TheProgram) (c : TheCall) (payload : Vec ℕ) (call : QueuedCall) → call.msg.0 ≡ c.msg → call.body ≡ Payload payload

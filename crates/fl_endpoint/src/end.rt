@@ -292,13 +292,13 @@ impl End {
         let Ok(queued) = QueuedCall::of(self.alloc, spare, &self.program, call, call.msg) else {
             return Err(EndFault::Memory);
         };
-        if let Some(tape) = self.outgoing.begin(&self.program, circuit, queued) {
-            *spare = tape;
-        }
+        self.outgoing
+            .begin_from(&self.program, circuit, queued, spare);
         Ok(())
     }
 
-    /// As [`End::call`], for a call in little memory. One whose tape is its one number takes no memory, and leaves `spare` alone.
+    /// As [`End::call`], for a call in little memory. One of one number of 0 to 2^64 - 1 takes no memory, and leaves `spare` alone: the
+    /// number is its tape, whatever scalar or enum the argument is.
     ///
     /// # Errors
     /// Those of [`End::call`], in the same order. The end is as it was then.
@@ -315,9 +315,8 @@ impl End {
         else {
             return Err(EndFault::Memory);
         };
-        if let Some(tape) = self.outgoing.begin(&self.program, circuit, queued) {
-            *spare = tape;
-        }
+        self.outgoing
+            .begin_from(&self.program, circuit, queued, spare);
         Ok(())
     }
 

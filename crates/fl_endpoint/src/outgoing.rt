@@ -14,7 +14,7 @@ ghost use Rattle.fl_endpoint.specs.Stored.{tape_frags, payload_frags, queued_fra
 ghost use Rattle.fl_endpoint.specs.Stored.{sent_as, SendsAs, IsShort, IsQueued, AreQueued, Queues, IsSending, IsInTransmission, IsOutgoing};
 
 use fl_base::{Circuit, Frag, MsgNo, control};
-use fl_compact_calls::{CompactCall, NumberCall, SeenCall, has_plain_number};
+use fl_compact_calls::{CompactCall, SeenCall};
 use fl_compile::Program;
 use fl_compile_payload::payload_by;
 use fl_layout::fragment_count;
@@ -35,7 +35,7 @@ pub(crate) enum CallBody {
     Tape(Vec<u64>),
     /// Of a longer call its payload.
     Payload(Vec<u8>),
-    /// Of a call whose tape is one number that number.
+    /// Of a call that is held as one number that number, which is its tape.
     Number(u64),
 }
 
@@ -140,46 +140,21 @@ impl QueuedCall {
         QueuedCall::of_payload(alloc, program, call, msg, size)
     }
 
-    // A fitting call of one number as it is queued, by a list made for it. Out of line, so that a call whose tape is its number has
-    // nothing of it.
-    #[inline(never)]
-    fn of_listed(
-        alloc: Global,
-        spare: &mut Vec<u64>,
-        program: &Program,
-        msg: MsgNo,
-        number: u64,
-    ) -> Result<QueuedCall, AllocError>
-        requires fits { fits_of (program_of program.now).interface (record { msg = msg.0; args = one_number number }) ≡ true }
-        ensures queues { IfOk result (λ queued. Queues (program_of program.now) (record { msg = msg.0; args = one_number number }) queued) }
-    {
-        let mut call = NumberCall::new(alloc)?;
-        QueuedCall::of(alloc, spare, program, call.set(msg, number), msg)
-    }
-
-    // A fitting call of one number as it is queued: the number itself where that is all of its tape, and then without memory.
+    // A fitting call of one number as it is queued: the number is all of its tape. Takes no memory.
     #[inline(always)]
-    fn of_number(
-        alloc: Global,
-        spare: &mut Vec<u64>,
-        program: &Program,
-        msg: MsgNo,
-        number: u64,
-    ) -> Result<QueuedCall, AllocError>
+    fn of_number(program: &Program, msg: MsgNo, number: u64) -> QueuedCall
         requires fits { fits_of (program_of program.now).interface (record { msg = msg.0; args = one_number number }) ≡ true }
-        ensures queues { IfOk result (λ queued. Queues (program_of program.now) (record { msg = msg.0; args = one_number number }) queued) }
+        ensures queues { Queues (program_of program.now) (record { msg = msg.0; args = one_number number }) result }
     {
         law_sends_fragments();
-        if !has_plain_number(program.interface(), msg) {
-            return QueuedCall::of_listed(alloc, spare, program, msg, number);
-        }
-        Ok(QueuedCall {
+        let _interface = program.interface();
+        QueuedCall {
             body: CallBody::Number(number),
             msg,
-        })
+        }
     }
 
-    // As `of`, for a call in little memory.
+    // As `of`, for a call in little memory. One that is held as a number takes none.
     #[inline(always)]
     pub(crate) fn of_compact(
         alloc: Global,
@@ -192,9 +167,7 @@ impl QueuedCall {
         ensures queues { IfOk result (λ queued. Queues (program_of program.now) (sent_as msg.0 (call_of call.now)) queued) }
     {
         match call.seen() {
-            SeenCall::Number(_, number) => {
-                QueuedCall::of_number(alloc, spare, program, msg, number)
-            }
+            SeenCall::Number(_, number) => Ok(QueuedCall::of_number(program, msg, number)),
             SeenCall::Other(call) => QueuedCall::of(alloc, spare, program, call, msg),
         }
     }
@@ -368,6 +341,27 @@ impl Outgoing {
             ≡ queued (outgoing_of (program_of program.now) circuit.0 self.old) (queued_frags (program_of program.now) circuit.0 call) }
     {
         self.start(program, circuit, call)
+    }
+
+    // The same; the tape that it gives back is spare memory again.
+    #[inline(always)]
+    pub(crate) fn begin_from(
+        &mut self,
+        program: &Program,
+        circuit: Circuit,
+        call: QueuedCall,
+        spare: &mut Vec<u64>,
+    )
+        requires outgoing { IsOutgoing (program_of program.now) self.old }
+        requires call { IsQueued (program_of program.now) call }
+        requires idle { self.old.sending ≡ None }
+        ensures outgoing { IsOutgoing (program_of program.now) self.new }
+        ensures queued { outgoing_of (program_of program.now) circuit.0 self.new
+            ≡ queued (outgoing_of (program_of program.now) circuit.0 self.old) (queued_frags (program_of program.now) circuit.0 call) }
+    {
+        if let Some(tape) = self.begin(program, circuit, call) {
+            *spare = tape;
+        }
     }
 
     // One call more to be sent. Takes memory where it has to wait; what is to be sent is as it was where that is refused.

@@ -17,6 +17,8 @@ pub enum Received {
 pub enum EndAction {
     /// A call by its text.
     Call(&'static [u8], Result<(), EndFault>),
+    /// The same, held in little memory.
+    Held(&'static [u8], Result<(), EndFault>),
     Show(Result<Option<Frag>, EndFault>),
     Write(Result<WriteAnswer, EndFault>),
     Receive(Received),
@@ -50,6 +52,11 @@ const ECHO: &[u8] = b"interface i { rpc echo(in uint32 x, out uint32 y); }";
 const SHORT: &[u8] = b"interface i { message m(bool b, string s[2]); }";
 
 const BLOB: &[u8] = b"interface i { message blob(string s); message nop(); }";
+
+/// Messages of one number: a signed one, one of 64 bits, an enum, and one from 0 on.
+pub const NUMBERS: &[u8] =
+    b"interface i { typedef enum { red, green, blue } color; message low(int8 x);
+    message wide(int64 x); message paint(color c); message plain(uint16 x); }";
 
 const WRITTEN: EndAction = EndAction::Write(Ok(WriteAnswer::Written {
     number: 1,
@@ -96,6 +103,38 @@ const EACH_ONCE: &[EndAction] = &[
     EndAction::Write(Ok(WriteAnswer::Nothing)),
     EndAction::Receive(Received::Handled(b"echo_response(9)")),
     EndAction::Receive(Received::Empty),
+];
+
+// A number as the first word shows it, and as it is handled.
+macro_rules! number {
+    ($text:expr, $control:expr, $word:expr) => {
+        &[
+            EndAction::Held($text, Ok(())),
+            EndAction::Held($text, Err(EndFault::Busy)),
+            shown!($control, $word),
+            WRITTEN,
+            EndAction::Receive(Received::Handled($text)),
+        ]
+    };
+}
+
+// Numbers from 0 on, which are held as they are, also signed ones and enums, and negative ones, which aren't.
+const SIGNED: &[&[EndAction]] = &[
+    number!(b"low(0)", 3, 0),
+    number!(b"low(127)", 3, 127),
+    number!(b"low(-1)", 3, 255),
+    number!(
+        b"wide(9223372036854775807)",
+        0x1_0003,
+        0x7fff_ffff_ffff_ffff
+    ),
+    number!(
+        b"wide(-9223372036854775808)",
+        0x1_0003,
+        0x8000_0000_0000_0000
+    ),
+    number!(b"paint(2)", 0x2_0003, 2),
+    number!(b"plain(65535)", 0x3_0003, 65_535),
 ];
 
 // The eight letters of a word of the text of 49 letters `a`, and the words of the fragments of its call.
@@ -182,6 +221,12 @@ pub const EXAMPLES: &[EndExample] = &[
             shown!(0x5_0000_0003, 7),
         ]],
         rows: &[],
+    },
+    EndExample {
+        text: NUMBERS,
+        circuit: Some(Circuit(0)),
+        starts: SIGNED,
+        rows: &[EndAction::Call(b"low(-128)", Ok(()))],
     },
     EndExample {
         text: SHORT,

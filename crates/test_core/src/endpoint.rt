@@ -6,10 +6,10 @@
 ghost use Rattle.std.specs.Prelude.{◌≡◌, [], OnOk};
 ghost use Rattle.fl_endpoint.specs.Lent.{IsPlaceOf};
 
-use crate::end_rows::{AT_LAST, EXAMPLES, EndAction, EndExample, Received};
+use crate::end_rows::{AT_LAST, EXAMPLES, EndAction, EndExample, NUMBERS, Received};
 use crate::texts::program;
 use fl_base::{Circuit, Frag, MsgNo};
-use fl_compact_calls::NumberCall;
+use fl_compact_calls::{CompactCall, NumberCall};
 use fl_core::{law_one_dispatcher_changes, law_one_end_changes, law_turn_accounts};
 use fl_endpoint::{
     End, EndFault, ReceiveAnswer, WriteAnswer, law_accounts_add_up, law_bind_accounts,
@@ -85,6 +85,42 @@ fn says(
     }
 }
 
+// Makes a call that is held in little memory.
+fn make_compact(alloc: Global, end: &mut End, call: &CompactCall) -> Result<(), EndFault>
+    ensures program { end.new.program ≡ end.old.program }
+{
+    end.call_compact(call, &mut Vec::new(alloc))
+}
+
+// The same of a call as it was read.
+fn make_kept(alloc: Global, end: &mut End, read: Result<Call, ValueFault>) -> Result<(), EndFault>
+    ensures program { end.new.program ≡ end.old.program }
+{
+    let Ok(call) = read else {
+        return Err(EndFault::Memory);
+    };
+    match CompactCall::keep(alloc, call) {
+        Ok(call) => make_compact(alloc, end, &call),
+        Err(_) => Err(EndFault::Memory),
+    }
+}
+
+// Whether an end answers so to the call of a text, which is held in little memory.
+fn says_held(
+    alloc: Global,
+    end: &mut End,
+    text: &[u8],
+    answer: &Result<(), EndFault>,
+) -> Result<bool, AllocError>
+    ensures program { end.new.program ≡ end.old.program }
+{
+    let read = read_call(alloc, text, end.program().interface());
+    match make_kept(alloc, end, read) {
+        Err(EndFault::Memory) => Err(AllocError),
+        said => Ok(said == *answer),
+    }
+}
+
 fn sets(end: &mut End, msg: MsgNo, reply: MsgNo, answer: &Result<(), EndFault>) -> bool
     ensures program { end.new.program ≡ end.old.program }
 {
@@ -152,6 +188,7 @@ fn does(
 {
     match action {
         EndAction::Call(text, answer) => says(alloc, end, text, answer),
+        EndAction::Held(text, answer) => says_held(alloc, end, text, answer),
         EndAction::Show(answer) => Ok(shows(end, out, answer)),
         EndAction::Write(answer) => Ok(writes(end, out, answer)),
         EndAction::Put(control, words) => Ok(puts(out, *control, words)),
@@ -442,4 +479,34 @@ fn laws(_rt: HostRuntime) {
     law_one_end_changes();
     law_one_dispatcher_changes();
     law_turn_accounts::<QueueLink>();
+}
+
+// Whether an end takes a call of a number of this message, for which it wants no memory.
+fn takes_number(alloc: Global, end: &mut End, spare: &mut NumberCall, msg: MsgNo) -> bool {
+    let call = CompactCall::of_number(spare, msg, 1);
+    make_compact(alloc, end, &call).is_ok()
+}
+
+// The same of a new end, where there is memory for that.
+fn new_end_takes_number(alloc: Global, spare: &mut NumberCall, msg: MsgNo) -> bool {
+    match bound_end(alloc, PlanNo::Two, NUMBERS, Circuit(0)) {
+        Ok(mut end) => takes_number(alloc, &mut end, spare, msg),
+        Err(_) => true,
+    }
+}
+
+// Whether a number of a signed message and one of an enum are taken.
+fn numbers_are_taken(alloc: Global) -> bool {
+    match NumberCall::new(alloc) {
+        Ok(mut spare) => {
+            new_end_takes_number(alloc, &mut spare, MsgNo(0))
+                && new_end_takes_number(alloc, &mut spare, MsgNo(2))
+        }
+        Err(_) => true,
+    }
+}
+
+#[test]
+fn numbers_without_memory(rt: HostRuntime) {
+    assert!(rt; numbers_are_taken(rt.alloc()));
 }
