@@ -80,6 +80,20 @@ module _ (few : Bool) (near nodes : List Node) (n : ℕ) (w : TheLists) (held : 
   large_place is c =
       ap (λ (xs : List Node). place_of (lists_of xs) c) (sym (large_is is)) ∙ ap (λ (v : TheLists). place_of v.lists c) seen
 
+  -- the table that was chosen, of the near one and what stands in the large one
+  pub chosen_seen : (xs ys : List Node) → xs ≡ in_use few near ys → ys ≡ nodes → xs ≡ w.table
+  chosen_seen xs ys is same =
+      is ∙ ap (λ (zs : List Node). in_use few near zs) same ∙ ap (λ (v : TheLists). v.table) seen
+
+  pub chosen_table : (xs : List Node) → xs ≡ w.table → IsTable xs
+  chosen_table xs is =
+      subst (λ (zs : List Node). IsTable zs) (ap (λ (v : TheLists). v.table) seen ∙ sym is) held.table
+
+  pub chosen_place : (xs : List Node) → xs ≡ w.table → (c : ℕ) → place_of (lists_of xs) c ≡ place_of w.lists c
+  chosen_place xs is c =
+      ap (λ (zs : List Node). place_of (lists_of zs) c) (is ∙ sym (ap (λ (v : TheLists). v.table) seen))
+      ∙ ap (λ (v : TheLists). place_of v.lists c) seen
+
   pub near_longer : few ≡ true → length near ≤ length nodes
   near_longer is =
       let within : length near ≤ n + 3 = subst (λ (xs : List Node). length xs ≤ n + 3) (near_is is) held.within in

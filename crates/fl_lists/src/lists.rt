@@ -2,7 +2,7 @@
 
 ghost use Rattle.std.specs.Prelude.{◌≡◌, ◌<◌, ◌≤◌, IfOk, IfSome, IsSome, MatchOption, OnOk, slice_get};
 ghost use Rattle.fl_lists.specs.ThreeLists.{list_at, place_of, unlinked, pushed, moved, popped, empty, IsApart};
-ghost use Rattle.fl_lists.specs.Table.{index_of, ChangesFew};
+ghost use Rattle.fl_lists.specs.Table.{index_of, in_use, ChangesFew};
 
 use crate::in_table::{first_of, move_last, place_in, push, push_wider, put_heads, unlink};
 use crate::node::{FREE, Node};
@@ -48,6 +48,14 @@ const MOST: usize = 65_533;
 
 /// So many numbers have nodes that lie near.
 const FEW: usize = 5;
+
+// The table that is in use. It is chosen before it is read, so that calls one after another read it once.
+#[inline(always)]
+fn in_use<'a>(few: bool, near: &'a [Node], nodes: &'a [Node]) -> &'a [Node]
+    ensures table { result.now ≡ in_use few near.now nodes.now }
+{
+    if few { near } else { nodes }
+}
 
 impl Lists {
     /// Empty lists of the numbers below `size`. No other call of `Lists` takes memory.
@@ -99,11 +107,7 @@ impl Lists {
         ensures place { result ≡ place_of self.now.lists c }
         ensures apart { IsApart self.now.lists }
     {
-        if self.few {
-            place_in(&self.near, c)
-        } else {
-            place_in(&self.nodes, c)
-        }
+        place_in(in_use(self.few, &self.near, self.nodes.as_slice()), c)
     }
 
     /// The first of a list; `None` where it is empty.
@@ -113,11 +117,7 @@ impl Lists {
         ensures within { IfSome result (λ c. c < self.now.lists.size) }
         ensures apart { IsApart self.now.lists }
     {
-        if self.few {
-            first_of(&self.near, place)
-        } else {
-            first_of(&self.nodes, place)
-        }
+        first_of(in_use(self.few, &self.near, self.nodes.as_slice()), place)
     }
 
     /// Puts `c`, which is in no list, at the back of one.
