@@ -169,8 +169,8 @@ impl<'a> Draft<'a> {
         Ok(())
     }
 
-    // Where a call is accepted, its arguments are taken out of the list that it was read in, but where they are one number. Room for the job is made first, so that
-    // the job is made in its place.
+    // Where a call is accepted, its arguments are taken out of the list that it was read in, but where they are one number. Room for
+    // the job is made first, so that the job is made in its place.
     pub(crate) fn call(&mut self, end: EndId, call: &mut Call) -> Result<(), CoresLineFault>
         ensures comes { Comes result (draft_of self.new) (makes_call end (call_of call.old) (draft_of self.old)) }
     {
