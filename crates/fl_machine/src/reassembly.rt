@@ -16,7 +16,7 @@ use crate::intake::Fed;
 use crate::recv::{
     PartialCall, TapedCall, begin, begin_alone, look_on, pass_text, whole, whole_number,
 };
-use fl_base::Frag;
+use fl_base::{FRAG_BYTES, Frag};
 use fl_compact_calls::{CompactCall, NumberCall};
 use fl_compile::Program;
 use fl_compile_tape::{ReadingRoom, call_of_frags};
@@ -65,11 +65,17 @@ pub(crate) struct Assembly {
     pub(crate) begun: Option<PartialCall>,
 }
 
-// Whether the call that a fragment begins has at most eight arguments, for whose numbers `take_straight` has places.
+// Whether the call that a fragment begins has at most eight arguments, for whose numbers `take_straight` has places, and may be all in
+// that fragment: fewer than eight mostly are.
 #[inline(always)]
 pub(crate) fn has_few_args(program: &Program, frag: &Frag) -> bool {
-    match program.interface().messages.get(usize::from(frag.msg().0)) {
-        Some(message) => message.args.len() <= 8,
+    let plans = program.plans();
+    let msg = frag.msg();
+    match plans.interface.messages.get(usize::from(msg.0)) {
+        Some(message) => match message.args.len() {
+            8 => plans.greatest(msg) <= FRAG_BYTES,
+            count => count < 8,
+        },
         None => false,
     }
 }

@@ -71,14 +71,16 @@ fn read_argument<'a>(
 
 // No values, with room for so many, in memory that was used before.
 #[inline(always)]
-fn emptied(used: Vec<Value>, count: usize) -> Result<Vec<Value>, AllocError>
+fn emptied(alloc: Global, used: Vec<Value>, count: usize) -> Result<Vec<Value>, AllocError>
     ensures none { IfOk result (λ values. values.items ≡ []) }
     ensures length { IfOk result (λ values. vec_len values ≡ 0) }
     ensures room { IfOk result (λ values. count ≤ vec_capacity values) }
 {
+    if used.capacity() < count {
+        return Vec::with_capacity(alloc, count);
+    }
     let mut values = used;
     values.clear();
-    values.reserve(count)?;
     Ok(values)
 }
 
@@ -87,6 +89,7 @@ fn emptied(used: Vec<Value>, count: usize) -> Result<Vec<Value>, AllocError>
 // order.
 #[inline(always)]
 fn read_wides<'a>(
+    alloc: Global,
     room: Vec<Value>,
     tape: &'a [u8],
     arguments: &[ArgType],
@@ -99,7 +102,7 @@ fn read_wides<'a>(
     ensures only { IfOk result (λ r. OnlyOne (InTurn PackedArgumentAt (arg_types (take (vec_len r.0) arguments.now)) tape.now)
         (map datum_of r.0.items) r.1.now) }
 {
-    let mut values = emptied(room, arguments.len())?;
+    let mut values = emptied(alloc, room, arguments.len())?;
     let mut rest = tape;
     while let Some(argument) = wide_at(arguments, values.len()) {
         let (number, after) = read_one(rest, Scalar::Uint64);
@@ -205,7 +208,7 @@ pub(crate) fn read_arguments<'a>(
     ensures only { IfOk result (λ r. OnlyOne (InTurn PackedArgumentAt (planned_types plan (arg_types arguments.now)) tape.now)
         (values_of (arranged kind plan (beside arguments.now r.0.items))) r.1.now) }
 {
-    let (values, rest) = read_wides(room, tape, arguments)?;
+    let (values, rest) = read_wides(alloc, room, tape, arguments)?;
     let others = &arguments[values.len()..];
     let kept = keeps_order(plan, others);
     if kept {
