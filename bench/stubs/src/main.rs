@@ -30,6 +30,7 @@ extern "C" {
     fn stubs_bench_take(text: *const u8, len: usize, call: *const u8, call_len: usize, second: bool, count: u64) -> u64;
     fn stubs_bench_receive(text: *const u8, len: usize, call: *const u8, call_len: usize, second: bool, count: u64) -> u64;
     fn stubs_bench_assemble(text: *const u8, len: usize, call: *const u8, call_len: usize, second: bool, count: u64) -> u64;
+    fn stubs_bench_assemble_again(text: *const u8, len: usize, call: *const u8, call_len: usize, second: bool, count: u64) -> u64;
     fn stubs_bench_read(text: *const u8, len: usize, call: *const u8, call_len: usize, second: bool, count: u64) -> u64;
     fn stubs_bench_pass(text: *const u8, len: usize, call: *const u8, call_len: usize, second: bool, count: u64) -> u64;
     fn stubs_bench_feed(text: *const u8, len: usize, call: *const u8, call_len: usize, second: bool, count: u64) -> u64;
@@ -49,7 +50,7 @@ struct Work {
     others: &'static [(&'static str, Side)],
 }
 
-const WORK: [Work; 8] = [
+const WORK: [Work; 9] = [
     Work {
         name: "a tape to fragments",
         ours: Side::Proved(stubs_bench_give),
@@ -96,6 +97,11 @@ const WORK: [Work; 8] = [
             ("proved reader", Side::Proved(stubs_bench_read)),
             ("plain reader", Side::Plain(receiver::read)),
         ],
+    },
+    Work {
+        name: "in memory of before",
+        ours: Side::Proved(stubs_bench_assemble_again),
+        others: &[("plain machine", Side::Plain(receiver::receive_again))],
     },
     Work {
         name: "a call, end to end",

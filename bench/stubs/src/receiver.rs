@@ -236,6 +236,24 @@ pub fn unflatten(types: &Interface, msg: u16, mut tape: &[u64]) -> Call {
     Call { msg, args: args.collect() }
 }
 
+// The same, in the memory of a call of before. A body of its own, so that the one above is compiled as ever.
+fn unflatten_into(call: &mut Call, types: &Interface, msg: u16, mut tape: &[u64]) {
+    let tape = &mut tape;
+    let args = types.messages[usize::from(msg)].iter();
+    let args = args.map(|arg| match arg {
+        ArgType::Fixed(ty) => value_of(ty, tape),
+        ArgType::Text(_) => {
+            let (text, rest) = tape[1..].split_at(tape[0] as usize);
+            *tape = rest;
+            Value::Text(text.iter().map(|number| *number as u8).collect())
+        }
+        ArgType::Sized(_, element) => Value::List((0..next_of(tape)).map(|_| value_of(element, tape)).collect()),
+    });
+    call.msg = msg;
+    call.args.clear();
+    call.args.extend(args);
+}
+
 pub fn sum_of_call(call: &Call) -> u64 {
     let each = |value: &Value| match value {
         Value::Int(number) => *number as u64,
@@ -272,6 +290,23 @@ pub fn take(stub: &Stub, count: u64) -> u64 {
 #[inline(never)]
 pub fn receive(stub: &Stub, count: u64) -> u64 {
     sum_of_feeding(stub, count, |tape| sum_of_call(&unflatten(&stub.types, 0, tape)))
+}
+
+/// The same, in the memory of the call of before.
+#[inline(never)]
+pub fn receive_again(stub: &Stub, count: u64) -> u64 {
+    let mut call = Call { msg: 0, args: Vec::new() };
+    let mut run = Taking::new(&stub.receive, stub.tape.len());
+    let mut sum: u64 = 0;
+    for _ in 0..count {
+        for frag in black_box(&stub.frags) {
+            if run.feed(frag) == Fed::Whole {
+                unflatten_into(&mut call, &stub.types, 0, run.tape());
+                sum = sum.wrapping_add(sum_of_call(&call));
+            }
+        }
+    }
+    sum
 }
 
 /// From the payload, by types.

@@ -148,6 +148,21 @@ const LONG: &[u8] = b"blob(\"aaaaaaaaaaaaaaaaaaaaaaaaaaaaaaaaaaaaaaaaaaaaaaaaa\"
 
 const PART: EndAction = EndAction::Receive(Received::Part);
 
+// Of a text of 105 letters, the first fragment and one whose bytes are all of the text; so of one of 104, which ends with that.
+const FIRST_OF_105: [u64; 7] = [105, LETTERS, LETTERS, LETTERS, LETTERS, LETTERS, LETTERS];
+
+const FIRST_OF_104: [u64; 7] = [104, LETTERS, LETTERS, LETTERS, LETTERS, LETTERS, LETTERS];
+
+const ALL_LETTERS: [u64; 7] = [
+    LETTERS, LETTERS, LETTERS, LETTERS, LETTERS, LETTERS, LETTERS,
+];
+
+const LONG_104: &[u8] =
+    b"blob(\"aaaaaaaaaaaaaaaaaaaaaaaaaaaaaaaaaaaaaaaaaaaaaaaaaaaaaaaaaaaaaaaaaaaaaaaaaaaaaaaaaaaaaaaaaaaaaaaaaaaaaaaa\")";
+
+const LONG_105: &[u8] =
+    b"blob(\"aaaaaaaaaaaaaaaaaaaaaaaaaaaaaaaaaaaaaaaaaaaaaaaaaaaaaaaaaaaaaaaaaaaaaaaaaaaaaaaaaaaaaaaaaaaaaaaaaaaaaaaaa\")";
+
 // To a new end.
 const FORGED: &[&[EndAction]] = &[
     &[EndAction::Put(1, [0, 0, 0, 0, 0, 0, 0]), refused!(60)],
@@ -184,6 +199,72 @@ const INSIDE: &[&[EndAction]] = &[
         PART,
         EndAction::Put(1, [0, 0, 0, 0, 0, 0, 0]),
         refused!(65),
+    ],
+];
+
+// A word of letters but one, which is a byte of 0.
+const UNSET: u64 = 0x6161_6161_6100_6161;
+
+// Inside a text of three fragments.
+const INSIDE_TEXT: &[&[EndAction]] = &[
+    &[
+        EndAction::Put(3, FIRST_OF_105),
+        PART,
+        EndAction::Put(
+            1,
+            [UNSET, LETTERS, LETTERS, LETTERS, LETTERS, LETTERS, LETTERS],
+        ),
+        refused!(65),
+    ],
+    &[
+        EndAction::Put(3, FIRST_OF_105),
+        PART,
+        EndAction::Put(
+            1,
+            [LETTERS, LETTERS, LETTERS, UNSET, LETTERS, LETTERS, LETTERS],
+        ),
+        refused!(65),
+    ],
+    &[
+        EndAction::Put(3, FIRST_OF_105),
+        PART,
+        EndAction::Put(
+            1,
+            [LETTERS, LETTERS, LETTERS, LETTERS, LETTERS, LETTERS, UNSET],
+        ),
+        refused!(65),
+    ],
+    &[
+        EndAction::Put(3, FIRST_OF_105),
+        PART,
+        EndAction::Put(65_537, ALL_LETTERS),
+        refused!(62),
+    ],
+    &[
+        EndAction::Put(3, FIRST_OF_105),
+        PART,
+        EndAction::Put(1, ALL_LETTERS),
+        PART,
+        EndAction::Put(1, [0x6161, 0, 0, 0, 0, 0, 0]),
+        refused!(63),
+    ],
+];
+
+// Texts that end in a fragment of their own, and with one that is all of them.
+const WHOLE_TEXTS: &[&[EndAction]] = &[
+    &[
+        EndAction::Put(3, FIRST_OF_105),
+        PART,
+        EndAction::Put(1, ALL_LETTERS),
+        PART,
+        EndAction::Put(1, LAST),
+        EndAction::Receive(Received::Handled(LONG_105)),
+    ],
+    &[
+        EndAction::Put(3, FIRST_OF_104),
+        PART,
+        EndAction::Put(1, ALL_LETTERS),
+        EndAction::Receive(Received::Handled(LONG_104)),
     ],
 ];
 
@@ -255,7 +336,19 @@ pub const EXAMPLES: &[EndExample] = &[
     EndExample {
         text: BLOB,
         circuit: Some(Circuit(0)),
+        starts: INSIDE_TEXT,
+        rows: &[HAS_FAILED],
+    },
+    EndExample {
+        text: BLOB,
+        circuit: Some(Circuit(0)),
         starts: &[QUIET],
+        rows: &[],
+    },
+    EndExample {
+        text: BLOB,
+        circuit: Some(Circuit(0)),
+        starts: WHOLE_TEXTS,
         rows: &[],
     },
 ];
